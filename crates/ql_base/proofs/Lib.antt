@@ -1,0 +1,3 @@
+mod Filled
+mod Told
+pub mod Pieces

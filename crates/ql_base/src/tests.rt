@@ -1,0 +1,120 @@
+//! What no clause says: that each call succeeds with ample memory, and worked examples.
+use crate::{
+    Clock, Clocks, Failed, Gate, ListClock, ListClocks, MemSink, MemSource, OpenGate, ReadFault,
+    Sink, Source, read_to_end, write_whole,
+};
+use std::alloc::AllocError;
+use std::thread::{Threads, join};
+
+#[test]
+fn a_source_gives_what_fits_and_fails_where_listed(rt: HostRuntime) -> Result<(), AllocError> {
+    let alloc = rt.alloc();
+    let mut source = MemSource::new(vec![in alloc; 1, 2, 3, 4, 5]?, vec![in alloc; 1]?);
+    let mut buf = [0; 3];
+    assert_eq!(rt; source.read(&mut buf), Ok(3));
+    assert_eq!(rt; buf, [1, 2, 3]);
+    assert_eq!(rt; source.read(&mut buf), Err(Failed));
+    assert_eq!(rt; source.read(&mut buf), Ok(2));
+    assert_eq!(rt; buf, [4, 5, 3]);
+    assert_eq!(rt; source.read(&mut buf), Ok(0));
+    Ok(())
+}
+
+#[test]
+fn a_sink_takes_what_fits_and_fails_where_listed_or_full(
+    rt: HostRuntime,
+) -> Result<(), AllocError> {
+    let alloc = rt.alloc();
+    let Ok(mut sink) = MemSink::with_room(alloc, 5, vec![in alloc; 1]?) else {
+        return Err(AllocError);
+    };
+    assert_eq!(rt; sink.write(b"abc"), Ok(3));
+    assert_eq!(rt; sink.write(b"def"), Err(Failed));
+    assert_eq!(rt; sink.write(b"def"), Ok(2));
+    assert_eq!(rt; sink.write(b"f"), Err(Failed));
+    assert_eq!(rt; sink.written(), b"abcde".as_slice());
+    Ok(())
+}
+
+#[test]
+fn a_piece_is_written_whole_or_up_to_the_fault(rt: HostRuntime) -> Result<(), AllocError> {
+    let alloc = rt.alloc();
+    let Ok(mut sink) = MemSink::with_room(alloc, 5, Vec::new(alloc)) else {
+        return Err(AllocError);
+    };
+    assert_eq!(rt; write_whole(&mut sink, b""), Ok(()));
+    assert_eq!(rt; write_whole(&mut sink, b"abc"), Ok(()));
+    assert_eq!(rt; write_whole(&mut sink, b"def"), Err(Failed));
+    assert_eq!(rt; sink.written(), b"abcde".as_slice());
+    Ok(())
+}
+
+// Lengths round the length of one read and round the limit. The bytes repeat after 251, which is no
+// divisor of 65536, so that a byte in the wrong place shows.
+#[test]
+fn all_is_read_up_to_the_limit(rt: HostRuntime) -> Result<(), AllocError> {
+    let alloc = rt.alloc();
+    for (len, limit) in [
+        (0, 0),
+        (1, 0),
+        (65_536, 65_536),
+        (65_537, 65_536),
+        (200_000, 200_000),
+        (200_001, 200_000),
+        (200_000, 1_000_000),
+    ] {
+        let mut bytes = Vec::new(alloc);
+        for i in 0..len {
+            bytes.push((i % 251) as u8)?;
+        }
+        let mut source = MemSource::new(bytes.clone()?, Vec::new(alloc));
+        let read = read_to_end(alloc, &mut source, limit);
+        if len <= limit {
+            assert!(rt; read == Ok(bytes), "{len} bytes under the limit {limit}");
+        } else {
+            assert!(rt;
+                read == Err(ReadFault::TooLong),
+                "{len} bytes under the limit {limit}"
+            );
+        }
+    }
+    Ok(())
+}
+
+#[test]
+fn a_failed_read_is_a_fault(rt: HostRuntime) -> Result<(), AllocError> {
+    let alloc = rt.alloc();
+    let mut source = MemSource::new(vec![in alloc; 1, 2, 3]?, vec![in alloc; 1]?);
+    assert!(rt; read_to_end(alloc, &mut source, 9) == Err(ReadFault::Fault));
+    Ok(())
+}
+
+#[test]
+fn a_listed_clock_gives_its_last_answer_again(rt: HostRuntime) -> Result<(), AllocError> {
+    let alloc = rt.alloc();
+    let mut clock = ListClock::new(vec![in alloc; 7, 3, 5]?);
+    for want in [7, 3, 5, 5, 5] {
+        assert_eq!(rt; clock.now(), want);
+    }
+    Ok(())
+}
+
+// What each of two callers is answered first and second by its own clock, on threads of their own.
+fn two_callers<R: Threads, T: Clocks, G: Gate>(rt: &R, clocks: &T, gate: &G) -> [[u64; 2]; 2] {
+    let ask = |caller: u64| {
+        gate.before(caller, 0);
+        let mut clock = clocks.clock(caller);
+        let answers = [clock.now(), clock.now()];
+        gate.after(caller, 0);
+        answers
+    };
+    let (first, second) = join(rt, || ask(0), || ask(1));
+    [first, second]
+}
+
+#[test]
+fn each_caller_has_a_clock_of_its_own(rt: HostRuntime) {
+    let answers = [4, 9];
+    let clocks = ListClocks::new(&answers);
+    assert_eq!(rt; two_callers(&rt, &clocks, &OpenGate), [[4, 9], [4, 9]]);
+}

@@ -1,0 +1,104 @@
+-- One history of a script's queries: what is said to all of them is what one thread would say that changes plain maps.
+use Rattle.std.specs.Prelude.{◌≡◌, ℕ, ◌+◌, ◌*◌, ◌/◌, ◌%◌, ◌<◌, ◌≤◌, ◌==◌, Bool, true, false, IsTrue, IsFalse, List, [], ◌∷◌, ◌++◌, Some, length, take, slice_get, zip, count_by, MatchBool, if◌then◌else◌}
+use Rattle.std.specs.List.{AllByRecursion, AllZip}
+use Rattle.query_rules.specs.declared.query.Query.{Query}
+use Rattle.query_rules.specs.declared.query.Query.TheVariants.{TryGet, TryPut, GetBy, PutBy, Give, Take, Audit}
+use Rattle.query_rules.specs.declared.query.Said.{Said}
+use Rattle.query_rules.specs.declared.query.Reply.{Reply}
+use Rattle.query_rules.specs.declared.query.Reply.TheVariants.{Placed, Busy, Late, Job}
+use Rattle.query_rules.specs.Maps.{Maps, no_entries, reply_of, is_write, written}
+
+-- write number w stands at place 2w + 1, and a read after w writes at 2w
+abbrev pub place_of : ℕ → Said → ℕ
+place_of w said = if is_write said then 2 * w + 1 else 2 * w
+
+-- the maps after these writes, the newest first
+abbrev pub maps_after : Maps → List Query → Maps
+maps_after opening [] = opening
+maps_after opening (q ∷ older) = written (maps_after opening older) q
+
+-- the maps after these writes, the oldest first
+abbrev pub replay : Maps → List Query → Maps
+replay opening [] = opening
+replay opening (q ∷ later) = replay (written opening q) later
+
+-- the maps after the first w of these writes
+abbrev pub maps_at : Maps → List Query → ℕ → Maps
+maps_at opening writes w = replay opening (take w writes)
+
+-- queries with their replies, of all callers
+abbrev pub entries : List (List Query) → List (List Reply) → List (Query × Reply)
+entries [] told = []
+entries (qs ∷ asked) [] = []
+entries (qs ∷ asked) (rs ∷ told) = zip qs rs ++ entries asked told
+
+-- a placed reply is the plain one on the maps of its place: at 2w + 1 it is write number w, and at 2w it follows w writes and is none
+abbrev pub StandsAt : ℕ → Maps → List Query → Query × Reply → Type 0
+StandsAt rows opening writes (q, Placed place said) =
+    (reply_of rows (maps_at opening writes (place / 2)) q ≡ Some said)
+    × MatchBool (place % 2 == 1)
+    ((slice_get writes (place / 2) ≡ Some q) × IsTrue (is_write said))
+    ((place / 2 ≤ length writes) × IsFalse (is_write said))
+StandsAt rows opening writes (q, Busy) = Unit {0}
+StandsAt rows opening writes (q, Late now) = Unit {0}
+StandsAt rows opening writes (q, Job at result) = Unit {0}
+
+-- an entry has the place of write w
+abbrev pub is_write_at : ℕ → Query × Reply → Bool
+is_write_at w (q, Placed place said) = place == 2 * w + 1
+is_write_at w (q, Busy) = false
+is_write_at w (q, Late now) = false
+is_write_at w (q, Job at result) = false
+
+-- there are writes, each an entry once, such that every placed entry stands where its place says
+pub record IsLegal (rows : ℕ) (opening : Maps) (all : List (Query × Reply)) : Type 0 where
+  pub writes : List Query
+  pub stand : AllByRecursion (StandsAt rows opening writes) all
+  pub once : (w : ℕ) → w < length writes → count_by (is_write_at w) all ≡ 1
+
+-- a caller's later reply stands at no earlier place, and at a later one where one of the two is a write
+abbrev pub Precedes : Reply → Reply → Type 0
+Precedes (Placed place said) (Placed later told) = (place ≤ later) × (1 ≤ place % 2 + later % 2 → place < later)
+Precedes (Placed place said) Busy = Unit {0}
+Precedes (Placed place said) (Late now) = Unit {0}
+Precedes (Placed place said) (Job at result) = Unit {0}
+Precedes Busy reply = Unit {0}
+Precedes (Late now) reply = Unit {0}
+Precedes (Job at result) reply = Unit {0}
+
+abbrev pub InOrder : List Reply → Type 0
+InOrder [] = Unit {0}
+InOrder (reply ∷ later) = AllByRecursion (Precedes reply) later × InOrder later
+
+abbrev pub is_try : Query → Bool
+is_try (TryGet cell key) = true
+is_try (TryPut cell key value) = true
+is_try _ = false
+
+abbrev pub has_deadline : Query → Bool
+has_deadline (GetBy cell key deadline) = true
+has_deadline (PutBy cell key value deadline) = true
+has_deadline _ = false
+
+abbrev pub asks_ledger : Query → Bool
+asks_ledger (Give key n) = true
+asks_ledger (Take key n) = true
+asks_ledger Audit = true
+asks_ledger _ = false
+
+-- a reply of a kind that the query may get
+abbrev pub IsKindFor : Query → Reply → Type 0
+IsKindFor q (Placed place said) = IsFalse (asks_ledger q)
+IsKindFor q Busy = IsTrue (is_try q)
+IsKindFor q (Late now) = IsTrue (has_deadline q)
+IsKindFor q (Job at result) = IsTrue (asks_ledger q)
+
+-- each of a caller's queries has its one reply, in the caller's order
+pub record AnswersEachOnce (queries : List Query) (replies : List Reply) : Type 0 where
+  pub each : AllZip IsKindFor queries replies
+  pub order : InOrder replies
+
+-- one history of what these callers ask
+pub record IsHistory (rows : ℕ) (callers : List (List Query)) (told : List (List Reply)) : Type 0 where
+  pub once : AllZip AnswersEachOnce callers told
+  pub legal : IsLegal rows no_entries (entries callers told)

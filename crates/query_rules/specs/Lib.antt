@@ -1,0 +1,6 @@
+pub mod Words
+pub mod Verbs
+pub mod Grammar
+pub mod Maps
+pub mod History
+pub mod Log

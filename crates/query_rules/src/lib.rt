@@ -1,0 +1,14 @@
+//! The words of a script and of its log, and what they mean.
+//!
+//! This is the bottom of the house: the types of queries and replies, and in `specs/` every
+//! definition that more than one crate speaks of: lines, words and numbers; which bytes are a
+//! script; the plain meaning of a query; one legal history; the text of a log.
+//!
+//! Its few functions are one table, [`Verb`], by which a script is read and a log is written.
+#![tactic(auto)]
+
+mod query;
+mod verb;
+
+pub use query::{Cause, LedgerTold, LedgerTrouble, Query, Reply, Said, Section, Spot, Total};
+pub use verb::Verb;

@@ -1,0 +1,24 @@
+//! Scripts and logs: between bytes and what they say.
+//!
+//! [`parse_script`] reads the bytes of a script, and tells of a text that is none its first bad
+//! line and that line's first cause. [`write_log`] writes what was replied to a script, a line at a
+//! time, into any sink. The definitions that both are held to stand in `query_rules`; bytes, faults
+//! and pieces are those of `ql_base`.
+//!
+//! Reading takes memory for the lists of queries alone, and writing takes none.
+#![tactic(auto)]
+
+mod log;
+mod log_line;
+mod number;
+mod outcome;
+mod parse;
+mod script;
+mod script_line;
+mod words;
+
+pub use log::write_log;
+pub use outcome::{Outcome, Totals};
+pub use parse::{ParseFault, parse_script};
+pub use query_rules::{Cause, LedgerTold, LedgerTrouble, Query, Reply, Said, Section, Spot, Verb};
+pub use script::{Callers, Script};

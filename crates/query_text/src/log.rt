@@ -1,0 +1,243 @@
+// The writing of a log.
+ghost use Rattle.std.specs.Prelude.{◌≡◌, ◌≤◌, ◌<◌, ◌^◌, ◌++◌, Some, [], length, get_or, take, drop, sum_by};
+ghost use Rattle.std.specs.List.{AllByRecursion, AllZip};
+ghost use Rattle.ql_base.specs.Bytes.{Writes};
+ghost use Rattle.ql_base.specs.Causes.{HasCause};
+ghost use Rattle.query_text.specs.Counts.{totals_in};
+ghost use Rattle.query_rules.specs.History.{IsKindFor};
+ghost use Rattle.query_rules.specs.Log.{log_text, head_text, tables_line, spots_text, refused_text, refused_from, totals_text, total_line, end_line, spot_line, refused_line, asked_at, told_at, placed_count, IsSpot, IsOrder};
+
+use crate::log_line::{Line, write_answer, write_number};
+use crate::{Callers, Outcome, Script, Totals};
+use ql_base::{Failed, Sink};
+use query_rules::{Query, Reply, Spot, Total};
+
+/// Writes the log of a script with so many rows in each cell: what was replied, and the totals. A
+/// line is handed to the sink as one piece, and the rest of it again until it is taken.
+///
+/// `order` has the spots of the map lines and then those of the job lines, each part by key, caller
+/// and index. The call takes no memory, and goes over the replies a fixed number of times.
+pub fn write_log<K: Sink>(
+    sink: &mut K,
+    script: &Script,
+    rows: u64,
+    outcome: &Outcome,
+    order: &[Spot],
+) -> Result<(), Failed>
+    // Each query has a reply of a kind that it may get.
+    requires kinds { AllZip (AllZip IsKindFor) script.now.callers outcome.now }
+    requires order { IsOrder outcome.now order.now }
+    ensures bytes { Writes (K.written sink.old) (K.written sink.new) result (log_text script.now rows outcome.now order.now) }
+    ensures cause { HasCause (K.faults sink.old) (K.faults sink.new) result }
+{
+    let callers = script.callers();
+    let totals = outcome.totals();
+    let (maps, jobs) = order.split_at((totals.writes + totals.reads) as usize);
+    write_head(sink, script, rows)?;
+    write_spots(sink, callers, outcome, maps)?;
+    write_later(sink, callers, outcome, jobs, &totals)
+}
+
+#[tactic(auto, unfolding(query_rules::specs::Log::tables_line))]
+fn write_tables<K: Sink>(sink: &mut K, script: &Script, rows: u64) -> Result<(), Failed>
+    ensures bytes { Writes (K.written sink.old) (K.written sink.new) result (tables_line script.now.cells rows (length script.now.callers)) }
+    ensures cause { HasCause (K.faults sink.old) (K.faults sink.new) result }
+{
+    let mut line = Line::new(b"cells");
+    line.number(script.cells());
+    line.word(b"rows");
+    line.number(rows);
+    line.word(b"callers");
+    line.number(script.callers().count());
+    line.write(sink)
+}
+
+fn write_head<K: Sink>(sink: &mut K, script: &Script, rows: u64) -> Result<(), Failed>
+    ensures bytes { Writes (K.written sink.old) (K.written sink.new) result (head_text script.now.cells rows (length script.now.callers)) }
+    ensures cause { HasCause (K.faults sink.old) (K.faults sink.new) result }
+{
+    write_number(sink, b"querylog", 1)?;
+    write_tables(sink, script, rows)
+}
+
+// The query of a spot.
+fn query_at<'a>(callers: &'a Callers, spot: &Spot) -> &'a Query
+    requires caller { spot.now.caller < length callers.now }
+    requires index { spot.now.index < length (get_or callers.now spot.now.caller []) }
+    ensures { asked_at callers.now spot.now ≡ Some result.now }
+{
+    let queries = callers.queries(spot.caller);
+    &queries[spot.index as usize]
+}
+
+// The reply of a spot.
+fn reply_at(outcome: &Outcome, spot: &Spot) -> Reply
+    requires caller { spot.now.caller < length outcome.now }
+    requires index { spot.now.index < length (get_or outcome.now spot.now.caller []) }
+    ensures { told_at outcome.now spot.now ≡ Some result }
+{
+    let replies = outcome.replies(spot.caller);
+    replies[spot.index as usize]
+}
+
+#[tactic(auto, unfolding(query_rules::specs::Log::spot_line))]
+fn write_at<K: Sink>(
+    sink: &mut K,
+    callers: &Callers,
+    outcome: &Outcome,
+    spot: &Spot,
+) -> Result<(), Failed>
+    requires { IsSpot callers.now outcome.now spot.now }
+    ensures bytes { Writes (K.written sink.old) (K.written sink.new) result (spot_line callers.now outcome.now spot.now) }
+    ensures cause { HasCause (K.faults sink.old) (K.faults sink.new) result }
+{
+    let query = query_at(callers, spot);
+    write_answer(
+        sink,
+        spot.caller,
+        spot.index,
+        query,
+        reply_at(outcome, spot),
+    )
+}
+
+// Writes the lines of these spots.
+fn write_spots<K: Sink>(
+    sink: &mut K,
+    callers: &Callers,
+    outcome: &Outcome,
+    order: &[Spot],
+) -> Result<(), Failed>
+    requires { AllByRecursion (IsSpot callers.now outcome.now) order.now }
+    ensures bytes { Writes (K.written sink.old) (K.written sink.new) result (spots_text callers.now outcome.now order.now) }
+    ensures cause { HasCause (K.faults sink.old) (K.faults sink.new) result }
+{
+    let mut rest = order;
+    while let [spot, after @ ..] = rest {
+        write_at(sink, callers, outcome, spot)?;
+        rest = after;
+    }
+    Ok(())
+}
+
+// Writes the line of a reply where it is a refusal.
+fn write_if_refused<K: Sink>(
+    sink: &mut K,
+    caller: u64,
+    index: u64,
+    query: &Query,
+    reply: Reply,
+) -> Result<(), Failed>
+    ensures bytes { Writes (K.written sink.old) (K.written sink.new) result (refused_line caller index query.now reply) }
+    ensures cause { HasCause (K.faults sink.old) (K.faults sink.new) result }
+{
+    match reply {
+        Reply::Busy | Reply::Late { .. } => write_answer(sink, caller, index, query, reply),
+        Reply::Placed { .. } | Reply::Job { .. } => Ok(()),
+    }
+}
+
+// Writes the lines of one caller's refusals.
+fn write_refused_of<K: Sink>(
+    sink: &mut K,
+    caller: u64,
+    queries: &[Query],
+    replies: &[Reply],
+) -> Result<(), Failed>
+    requires { length replies.now ≡ length queries.now }
+    ensures bytes { Writes (K.written sink.old) (K.written sink.new) result (refused_from caller 0 queries.now replies.now) }
+    ensures cause { HasCause (K.faults sink.old) (K.faults sink.new) result }
+{
+    for index in 0..replies.len() {
+        write_if_refused(sink, caller, index as u64, &queries[index], replies[index])?;
+    }
+    Ok(())
+}
+
+// Writes the lines of all refusals.
+fn write_refused<K: Sink>(sink: &mut K, callers: &Callers, outcome: &Outcome) -> Result<(), Failed>
+    requires { AllZip (AllZip IsKindFor) callers.now outcome.now }
+    ensures bytes { Writes (K.written sink.old) (K.written sink.new) result (refused_text callers.now outcome.now) }
+    ensures cause { HasCause (K.faults sink.old) (K.faults sink.new) result }
+{
+    for caller in 0..callers.count() {
+        write_refused_of(
+            sink,
+            caller,
+            callers.queries(caller),
+            outcome.replies(caller),
+        )?;
+    }
+    Ok(())
+}
+
+fn write_total<K: Sink>(sink: &mut K, total: Total, n: u64) -> Result<(), Failed>
+    ensures bytes { Writes (K.written sink.old) (K.written sink.new) result (total_line (total, n)) }
+    ensures cause { HasCause (K.faults sink.old) (K.faults sink.new) result }
+{
+    match total {
+        Total::Queries => write_number(sink, b"queries", n),
+        Total::Writes => write_number(sink, b"writes", n),
+        Total::Reads => write_number(sink, b"reads", n),
+        Total::Refused => write_number(sink, b"refused", n),
+        Total::Jobs => write_number(sink, b"jobs", n),
+    }
+}
+
+// Writes a line for each total.
+fn write_totals<K: Sink>(sink: &mut K, totals: &[(Total, u64)]) -> Result<(), Failed>
+    ensures bytes { Writes (K.written sink.old) (K.written sink.new) result (totals_text totals.now) }
+    ensures cause { HasCause (K.faults sink.old) (K.faults sink.new) result }
+{
+    let mut rest = totals;
+    while let [(total, n), after @ ..] = rest {
+        write_total(sink, *total, *n)?;
+        rest = after;
+    }
+    Ok(())
+}
+
+#[tactic(auto, unfolding(query_rules::specs::Log::end_line))]
+fn write_end<K: Sink>(sink: &mut K) -> Result<(), Failed>
+    ensures bytes { Writes (K.written sink.old) (K.written sink.new) result end_line }
+    ensures cause { HasCause (K.faults sink.old) (K.faults sink.new) result }
+{
+    Line::new(b"end").write(sink)
+}
+
+// Writes the totals and the end.
+fn write_close<K: Sink>(sink: &mut K, totals: &Totals) -> Result<(), Failed>
+    ensures bytes { Writes (K.written sink.old) (K.written sink.new) result (totals_text (totals_in totals.now) ++ end_line) }
+    ensures cause { HasCause (K.faults sink.old) (K.faults sink.new) result }
+{
+    write_totals(
+        sink,
+        &[
+            (Total::Queries, totals.queries),
+            (Total::Writes, totals.writes),
+            (Total::Reads, totals.reads),
+            (Total::Refused, totals.refused),
+            (Total::Jobs, totals.jobs),
+        ],
+    )?;
+    write_end(sink)
+}
+
+// Writes what stands behind the map lines.
+fn write_later<K: Sink>(
+    sink: &mut K,
+    callers: &Callers,
+    outcome: &Outcome,
+    jobs: &[Spot],
+    totals: &Totals,
+) -> Result<(), Failed>
+    requires kinds { AllZip (AllZip IsKindFor) callers.now outcome.now }
+    requires spots { AllByRecursion (IsSpot callers.now outcome.now) jobs.now }
+    ensures bytes { Writes (K.written sink.old) (K.written sink.new) result
+        (refused_text callers.now outcome.now ++ (spots_text callers.now outcome.now jobs.now ++ (totals_text (totals_in totals.now) ++ end_line))) }
+    ensures cause { HasCause (K.faults sink.old) (K.faults sink.new) result }
+{
+    write_refused(sink, callers, outcome)?;
+    write_spots(sink, callers, outcome, jobs)?;
+    write_close(sink, totals)
+}

@@ -1,0 +1,277 @@
+// A line of a log, made word by word.
+ghost use Rattle.std.specs.Prelude.{◌≡◌, ◌+◌, ◌*◌, ◌<◌, ◌≤◌, [], ◌∷◌, ◌++◌, length, map, decimal};
+ghost use Rattle.ql_base.specs.Bytes.{Writes};
+ghost use Rattle.ql_base.specs.Causes.{HasCause};
+ghost use Rattle.query_rules.specs.Log.{said_words, found_words, ledger_words, reply_words, answer_line, number_line};
+ghost use Rattle.query_rules.specs.Verbs.{query_words};
+ghost use Rattle.query_text.specs.Spaced.{spaced, placed_bytes};
+
+use arrayvec::ArrayVec;
+use itoa::Buffer;
+use ql_base::{Failed, Sink, write_whole};
+use query_rules::{LedgerTold, LedgerTrouble, Query, Reply, Said};
+use std::marker::Model;
+
+/// A line that is being made, without its end. It has room for 255 bytes, and lives on the stack.
+#[derive(Drop)]
+pub struct Line {
+    bytes: ArrayVec<u8, 255>,
+}
+
+impl Model for Line {
+    ghost use Rattle.std.specs.Prelude.{List, ℕ};
+
+    ghost Value = { List ℕ };
+
+    ghost view = { λ l. l.bytes.items };
+}
+
+impl Line {
+    /// A line that begins with this word.
+    pub fn new(word: &[u8]) -> Self
+        requires { length word.now ≤ 20 }
+        ensures { result ≡ word.now }
+    {
+        let mut bytes = ArrayVec::new();
+        let _ = bytes.try_extend_from_slice(word);
+        Line { bytes }
+    }
+
+    /// Adds a word, behind a space.
+    pub fn word(&mut self, word: &[u8])
+        requires { length self.old + length word.now < 254 }
+        ensures line { self.new ≡ self.old ++ 32 ∷ word.now }
+        ensures len { length self.new ≡ length self.old + 1 + length word.now }
+    {
+        self.bytes.push(b' ');
+        let _ = self.bytes.try_extend_from_slice(word);
+    }
+
+    /// Adds a number, behind a space.
+    pub fn number(&mut self, n: u64)
+        requires { length self.old < 234 }
+        ensures line { self.new ≡ self.old ++ 32 ∷ decimal n }
+        ensures len { length self.new ≤ length self.old + 21 }
+    {
+        let mut buffer = Buffer::new();
+        self.word(buffer.format(n).as_bytes());
+    }
+
+    // Adds a sum, which may be twice as wide as a number.
+    fn wide_number(&mut self, n: u128)
+        requires { length self.old < 200 }
+        ensures line { self.new ≡ self.old ++ 32 ∷ decimal n }
+        ensures len { length self.new ≤ length self.old + 40 }
+    {
+        let mut buffer = Buffer::new();
+        self.word(buffer.format(n).as_bytes());
+    }
+
+    // Adds numbers, each behind a space.
+    fn numbers(&mut self, numbers: &[u64])
+        requires { length self.old + 21 * length numbers.now < 250 }
+        ensures line { self.new ≡ self.old ++ spaced (map decimal numbers.now) }
+        ensures len { length self.new ≤ length self.old + 21 * length numbers.now }
+    {
+        let mut rest = numbers;
+        while let [n, after @ ..] = rest {
+            self.number(*n);
+            rest = after;
+        }
+    }
+
+    // Adds a name and the numbers that follow it.
+    fn call(&mut self, name: &[u8], numbers: &[u64])
+        requires { length self.old + length name.now + 21 * length numbers.now < 248 }
+        ensures line { self.new ≡ self.old ++ spaced (name.now ∷ map decimal numbers.now) }
+        ensures len { length self.new ≤ length self.old + 1 + length name.now + 21 * length numbers.now }
+    {
+        self.word(name);
+        self.numbers(numbers);
+    }
+
+    /// Adds the words of a query.
+    pub fn query(&mut self, query: &Query)
+        requires { length self.old ≤ 100 }
+        ensures line { self.new ≡ self.old ++ spaced (query_words query.now) }
+        ensures len { length self.new ≤ length self.old + 91 }
+    {
+        match *query {
+            Query::Get { cell, key } => self.call(b"get", &[cell, key]),
+            Query::Len { cell } => self.call(b"len", &[cell]),
+            Query::Put { cell, key, value } => self.call(b"put", &[cell, key, value]),
+            Query::Del { cell, key } => self.call(b"del", &[cell, key]),
+            Query::Add { cell, key, delta } => self.call(b"add", &[cell, key, delta]),
+            Query::Cas {
+                cell,
+                key,
+                old,
+                new,
+            } => self.call(b"cas", &[cell, key, old, new]),
+            Query::PutLen { cell, key, value } => self.call(b"putlen", &[cell, key, value]),
+            Query::Move { from, to, key, n } => self.call(b"move", &[from, to, key, n]),
+            Query::Both { first, second, key } => self.call(b"both", &[first, second, key]),
+            Query::TryGet { cell, key } => self.call(b"tryget", &[cell, key]),
+            Query::TryPut { cell, key, value } => self.call(b"tryput", &[cell, key, value]),
+            Query::GetBy {
+                cell,
+                key,
+                deadline,
+            } => self.call(b"getby", &[cell, key, deadline]),
+            Query::PutBy {
+                cell,
+                key,
+                value,
+                deadline,
+            } => self.call(b"putby", &[cell, key, value, deadline]),
+            Query::Give { key, n } => self.call(b"give", &[key, n]),
+            Query::Take { key, n } => self.call(b"take", &[key, n]),
+            Query::Audit => self.call(b"audit", &[]),
+        }
+    }
+
+    // Adds what one cell has of a key.
+    fn found(&mut self, value: Option<u64>)
+        requires { length self.old ≤ 220 }
+        ensures line { self.new ≡ self.old ++ spaced (found_words value) }
+        ensures len { length self.new ≤ length self.old + 26 }
+    {
+        match value {
+            Some(value) => self.call(b"some", &[value]),
+            None => self.call(b"none", &[]),
+        }
+    }
+
+    // Adds what was said.
+    fn said(&mut self, said: Said)
+        requires { length self.old ≤ 190 }
+        ensures line { self.new ≡ self.old ++ spaced (said_words said) }
+        ensures len { length self.new ≤ length self.old + 60 }
+    {
+        match said {
+            Said::Found(value) => self.call(b"some", &[value]),
+            Said::Absent => self.call(b"none", &[]),
+            Said::Count(n) => self.numbers(&[n]),
+            Said::New => self.call(b"new", &[]),
+            Said::Old(value) => self.call(b"old", &[value]),
+            Said::Full => self.call(b"full", &[]),
+            Said::Now(value) => self.call(b"now", &[value]),
+            Said::Over => self.call(b"over", &[]),
+            Said::Yes => self.call(b"yes", &[]),
+            Said::No(value) => self.call(b"no", &[value]),
+            Said::NewCount(n) => self.call(b"new", &[n]),
+            Said::OldCount(value, n) => self.call(b"old", &[value, n]),
+            Said::Moved => self.call(b"moved", &[]),
+            Said::Short(value) => self.call(b"short", &[value]),
+            Said::Same => self.call(b"same", &[]),
+            Said::Pair(first, second) => {
+                self.found(first);
+                self.found(second);
+            }
+        }
+    }
+
+    // Adds what the ledger answered.
+    fn ledger(&mut self, answer: Result<LedgerTold, LedgerTrouble>)
+        requires { length self.old ≤ 190 }
+        ensures line { self.new ≡ self.old ++ spaced (ledger_words answer) }
+        ensures len { length self.new ≤ length self.old + 60 }
+    {
+        match answer {
+            Ok(LedgerTold::Now(n)) => self.call(b"now", &[n]),
+            Ok(LedgerTold::Sum(n)) => {
+                self.word(b"sum");
+                self.wide_number(n);
+            }
+            Err(LedgerTrouble::Over) => {
+                self.word(b"err");
+                self.word(b"over");
+            }
+            Err(LedgerTrouble::Full) => {
+                self.word(b"err");
+                self.word(b"full");
+            }
+            Err(LedgerTrouble::Short(n)) => {
+                self.word(b"err");
+                self.call(b"short", &[n]);
+            }
+        }
+    }
+
+    /// Adds what was replied.
+    pub fn reply(&mut self, reply: Reply)
+        requires { length self.old ≤ 190 }
+        ensures line { self.new ≡ self.old ++ spaced (reply_words reply) }
+        ensures len { length self.new ≤ length self.old + 60 }
+    {
+        match reply {
+            Reply::Placed { said, .. } => self.said(said),
+            Reply::Busy => self.call(b"busy", &[]),
+            Reply::Late { now } => self.call(b"late", &[now]),
+            Reply::Job { result: answer, .. } => self.ledger(answer),
+        }
+    }
+
+    /// Writes the line and its end, as one piece.
+    pub fn write<K: Sink>(mut self, sink: &mut K) -> Result<(), Failed>
+        requires { length self < 255 }
+        ensures bytes { Writes (K.written sink.old) (K.written sink.new) result (self ++ 10 ∷ []) }
+        ensures cause { HasCause (K.faults sink.old) (K.faults sink.new) result }
+    {
+        self.bytes.push(b'\n');
+        write_whole(sink, &self.bytes)
+    }
+}
+
+// A line that begins with the section of a reply, and where it stands there.
+fn placed(reply: Reply) -> Line
+    ensures line { result ≡ placed_bytes reply }
+    ensures len { length result ≤ 24 }
+{
+    match reply {
+        Reply::Placed { place, .. } => headed(b"map", place),
+        Reply::Busy | Reply::Late { .. } => Line::new(b"ref"),
+        Reply::Job { at, .. } => headed(b"job", at),
+    }
+}
+
+// A line that begins with a name and a number.
+fn headed(name: &[u8], n: u64) -> Line
+    requires { length name.now ≤ 20 }
+    ensures line { result ≡ name.now ++ 32 ∷ decimal n }
+    ensures len { length result ≤ length name.now + 21 }
+{
+    let mut line = Line::new(name);
+    line.number(n);
+    line
+}
+
+/// Writes the line of one reply.
+pub fn write_answer<K: Sink>(
+    sink: &mut K,
+    caller: u64,
+    index: u64,
+    query: &Query,
+    reply: Reply,
+) -> Result<(), Failed>
+    ensures bytes { Writes (K.written sink.old) (K.written sink.new) result (answer_line caller index query.now reply) }
+    ensures cause { HasCause (K.faults sink.old) (K.faults sink.new) result }
+{
+    let mut line = placed(reply);
+    line.number(caller);
+    line.number(index);
+    line.query(query);
+    line.word(b"=");
+    line.reply(reply);
+    line.write(sink)
+}
+
+/// Writes a line of a name and a number.
+#[tactic(auto, unfolding(query_rules::specs::Log::number_line))]
+pub fn write_number<K: Sink>(sink: &mut K, name: &[u8], n: u64) -> Result<(), Failed>
+    requires { length name.now ≤ 20 }
+    ensures bytes { Writes (K.written sink.old) (K.written sink.new) result (number_line name.now n) }
+    ensures cause { HasCause (K.faults sink.old) (K.faults sink.new) result }
+{
+    headed(name, n).write(sink)
+}

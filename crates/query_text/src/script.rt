@@ -1,0 +1,132 @@
+// Scripts.
+ghost use Rattle.std.specs.Prelude.{◌≡◌, ◌∷◌, ◌++◌, ◌<◌, ◌^◌, [], length, OnOk, OnErr, get_or, sum_by, nat_le, map};
+ghost use Rattle.query_rules.specs.Grammar.{IsScript, with_query};
+
+use ql_base::NoMemory;
+use query_rules::Query;
+use std::alloc::Global;
+use std::marker::Model;
+
+/// The most queries that a script may have.
+pub const MOST_QUERIES: u64 = 1_000_000;
+
+/// The queries of some callers, a list for each.
+#[derive(Drop)]
+pub struct Callers {
+    alloc: Global,
+    lists: Vec<Vec<Query>>,
+    // how many queries there are; it stands still at the end of a u64
+    total: u64,
+}
+
+impl Model for Callers {
+    ghost use Rattle.std.specs.Prelude.{◌≡◌, ◌-◌, ◌^◌, List, length, map, min, sum_by};
+    ghost use Rattle.query_rules.specs.declared.query.Query.{Query};
+
+    ghost Value = { List (List Query) };
+
+    ghost view = { λ c. map (λ v. v.items) c.lists.items };
+
+    ghost invariant = { λ c. c.total ≡ min (sum_by length (map (λ v. v.items) c.lists.items)) (2 ^ 64 - 1) };
+}
+
+impl Callers {
+    /// No caller.
+    pub fn new(alloc: Global) -> Self
+        ensures { result ≡ [] }
+    {
+        Callers {
+            alloc,
+            lists: Vec::new(alloc),
+            total: 0,
+        }
+    }
+
+    /// How many callers there are.
+    pub fn count(&self) -> u64
+        ensures { result ≡ length self.now }
+    {
+        self.lists.len() as u64
+    }
+
+    /// The queries of one caller. Callers are numbered from 0.
+    pub fn queries(&self, caller: u64) -> &[Query]
+        requires { caller < length self.now }
+        ensures { result.now ≡ get_or self.now caller [] }
+    {
+        &self.lists[caller as usize]
+    }
+
+    /// Whether there are as many queries as a script may have.
+    pub fn is_full(&self) -> bool
+        ensures { result ≡ nat_le 1000000 (sum_by length self.now) }
+    {
+        self.total >= MOST_QUERIES
+    }
+
+    /// Adds a caller with no query. A refusal changes nothing.
+    pub fn add_caller(&mut self) -> Result<(), NoMemory>
+        ensures ok { OnOk result (self.new ≡ self.old ++ [] ∷ []) }
+        ensures err { OnErr result (self.new ≡ self.old) }
+    {
+        self.lists.push(Vec::new(self.alloc))?;
+        Ok(())
+    }
+
+    /// Adds a query to the last caller's. A refusal changes nothing.
+    pub fn add_query(&mut self, query: Query) -> Result<(), NoMemory>
+        requires { 0 < length self.old }
+        ensures ok { OnOk result (self.new ≡ with_query self.old query) }
+        ensures err { OnErr result (self.new ≡ self.old) }
+    {
+        let last = self.lists.len() - 1;
+        self.lists[last].push(query)?;
+        self.total = self.total.saturating_add(1);
+        Ok(())
+    }
+}
+
+/// A script: a number of cells, and what each caller asks. It is always one that some text says:
+/// 1 to 64 cells, at most 64 callers and 1,000,000 queries, and no query names a cell that isn't
+/// there.
+#[derive(Drop)]
+pub struct Script {
+    cells: u64,
+    callers: Callers,
+}
+
+impl Model for Script {
+    ghost use Rattle.query_rules.specs.Grammar.{Asked, IsScript};
+
+    ghost Value = { Asked };
+
+    ghost view = { λ s. record { cells = s.cells; callers = s.callers } };
+
+    ghost invariant = { λ s. IsScript (record { cells = s.cells; callers = s.callers }) };
+}
+
+impl Script {
+    /// The script with these cells and callers. It takes no memory.
+    pub fn of(cells: u64, callers: Callers) -> Self
+        requires { IsScript (record { cells = cells; callers = callers }) }
+        ensures { result ≡ record { cells = cells; callers = callers } }
+    {
+        Script { cells, callers }
+    }
+
+    /// How many cells there are.
+    pub fn cells(&self) -> u64
+        ensures value { result ≡ self.now.cells }
+        ensures script { IsScript self.now }
+    {
+        self.cells
+    }
+
+    /// What the callers ask.
+    pub fn callers(&self) -> &Callers
+        ensures value { result.now ≡ self.now.callers }
+        ensures script { IsScript self.now }
+    {
+        &self.callers
+    }
+}

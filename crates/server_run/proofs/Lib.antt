@@ -1,0 +1,2 @@
+mod HistoryLaws
+mod Orders

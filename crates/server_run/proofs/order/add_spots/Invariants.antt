@@ -1,0 +1,12 @@
+use Rattle.std.proofs.Common.{◌≡◌, ◌≤◌, ◌+◌, ◌++◌, length}
+use Rattle.query_rules.specs.Log.{spots_from}
+use Rattle.server_run.proofs.order.add_spots.Given as goal
+
+-- the spots so far and those of what is left
+abbrev pub invariant-loop-rest : goal.invariant-loop-rest
+invariant-loop-rest l =
+    (l.spots.items ++ spots_from l.section l.caller l.index l.rest ≡ l.fn.spots.items ++ spots_from l.section l.caller 0 l.replies)
+    × (l.index + length l.rest ≤ length l.replies)
+
+abbrev pub decreases-loop-rest : goal.decreases-loop-rest
+decreases-loop-rest l = length l.rest

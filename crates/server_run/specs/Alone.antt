@@ -1,0 +1,31 @@
+-- What one caller is told where nobody else asks.
+use Rattle.std.specs.Prelude.{◌≡◌, ℕ, ◌+◌, List, [], ◌∷◌, Some, if◌then◌else◌}
+use Rattle.query_rules.specs.declared.query.Query.{Query}
+use Rattle.query_rules.specs.declared.query.Said.{Said}
+use Rattle.query_rules.specs.declared.query.Reply.{Reply}
+use Rattle.query_rules.specs.declared.query.Reply.TheVariants.{Placed, Busy, Late, Job}
+use Rattle.query_rules.specs.Maps.{Maps, no_entries, reply_of, is_write, after}
+use Rattle.query_rules.specs.History.{place_of}
+
+abbrev pub writes_after : ℕ → Said → ℕ
+writes_after w said = if is_write said then w + 1 else w
+
+-- each query is told what these maps say, after w writes, and leaves the maps for the next
+abbrev pub AnsweredAlone : ℕ → Maps → ℕ → List Query → List Reply → Type 0
+AnsweredAlone rows maps w [] [] = Unit {0}
+AnsweredAlone rows maps w [] (reply ∷ replies) = ⊥
+AnsweredAlone rows maps w (q ∷ queries) [] = ⊥
+AnsweredAlone rows maps w (q ∷ queries) (Placed place said ∷ replies) =
+    (reply_of rows maps q ≡ Some said) × (place ≡ place_of w said) × AnsweredAlone rows (after maps q said) (writes_after w said) queries replies
+AnsweredAlone rows maps w (q ∷ queries) (Busy ∷ replies) = ⊥
+AnsweredAlone rows maps w (q ∷ queries) (Late now ∷ replies) = ⊥
+AnsweredAlone rows maps w (q ∷ queries) (Job at result ∷ replies) = ⊥
+
+-- the same of a script's one caller, or of none
+abbrev pub ToldAlone : ℕ → List (List Query) → List (List Reply) → Type 0
+ToldAlone rows [] [] = Unit {0}
+ToldAlone rows [] (replies ∷ told) = ⊥
+ToldAlone rows (queries ∷ []) [] = ⊥
+ToldAlone rows (queries ∷ []) (replies ∷ []) = AnsweredAlone rows no_entries 0 queries replies
+ToldAlone rows (queries ∷ []) (replies ∷ other ∷ told) = ⊥
+ToldAlone rows (queries ∷ other ∷ callers) told = ⊥

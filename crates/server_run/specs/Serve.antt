@@ -1,0 +1,80 @@
+-- What a run of the program has read and written, by its status.
+use Rattle.std.specs.Prelude.{◌≡◌, ℕ, ◌<◌, ◌≤◌, ◌⊎◌, List, [], ◌∷◌, ◌++◌, length, Ok, Err, Some, None, IfSome, if◌then◌else◌, not, Bool}
+use Rattle.std.specs.declared.option.Option.{Option}
+use Rattle.std.specs.declared.result.Result.{Result}
+use Rattle.std.specs.List.{list_all}
+use Rattle.std.specs.Io.KnownBytes.{Appends, IsAtEnd}
+use Rattle.ql_base.specs.Bytes.{AppendsFront}
+use Rattle.ql_base.specs.Causes.{Rose}
+use Rattle.query_rules.specs.declared.query.Query.{Query}
+use Rattle.query_rules.specs.declared.query.Reply.{Reply}
+use Rattle.query_rules.specs.declared.query.Cause.{Cause}
+use Rattle.query_rules.specs.declared.query.Spot.{Spot}
+use Rattle.query_rules.specs.Grammar.{Asked, said_by}
+use Rattle.query_rules.specs.History.{IsHistory, asks_ledger}
+use Rattle.query_rules.specs.Log.{IsOrder, log_text}
+
+-- the most bytes that a script may have
+abbrev pub limit : ℕ
+limit = 67108864
+
+-- queries to the ledger aren't answered yet
+abbrev pub is_supported : List (List Query) → Bool
+is_supported callers = list_all (list_all (λ q. not (asks_ledger q))) callers
+
+abbrev pub if_supported : Result Asked (ℕ × Cause) → Option Asked
+if_supported (Ok s) = if is_supported s.callers then Some s else None
+if_supported (Err fault) = None
+
+-- the script that bytes ask, where they ask one whose queries are all answered
+abbrev pub script_of : List ℕ → Option Asked
+script_of bytes = if_supported (said_by bytes)
+
+-- where the source tells its bytes, all of them came, they aren't too many, and they ask this script
+pub record Reads (left left_new : Option (List ℕ)) (script : Asked) : Type 0 where
+  pub asked : IfSome left (λ bytes. script_of bytes ≡ Some script)
+  pub short : IfSome left (λ bytes. length bytes ≤ limit)
+  pub end : IsAtEnd left_new
+
+-- the printed form of one history of what a script asks
+pub record IsLogOf (script : Asked) (rows : ℕ) (text : List ℕ) : Type 0 where
+  pub told : List (List Reply)
+  pub order : List Spot
+  pub history : IsHistory rows script.callers told
+  pub in_order : IsOrder told order
+  pub text_is : text ≡ log_text script rows told order
+
+-- Status 0: what was written is exactly the printed form of one history of the script that the bytes ask.
+-- Each caller's queries stand in it once, in its order, with the replies of plain maps changed by one thread, and the totals count them.
+pub record WritesOneHistory (left left_new written written_new : Option (List ℕ)) (rows : ℕ) : Type 0 where
+  pub script : Asked
+  pub read : Reads left left_new script
+  pub text : List ℕ
+  pub log : IsLogOf script rows text
+  pub grew : Appends written written_new text
+
+-- Status 5: a front of such a text was written.
+pub record WritesFront (left left_new written written_new : Option (List ℕ)) (rows : ℕ) : Type 0 where
+  pub script : Asked
+  pub read : Reads left left_new script
+  pub text : List ℕ
+  pub log : IsLogOf script rows text
+  pub grew : AppendsFront written written_new text
+
+-- Status 3: more bytes came than a script may have, or they ask no script.
+abbrev pub IsRefused : List ℕ → Type 0
+IsRefused bytes = (limit < length bytes) ⊎ (script_of bytes ≡ None)
+
+-- these bytes are a script, and not too many
+abbrev pub IsAccepted : List ℕ → Type 0
+IsAccepted bytes = (length bytes ≤ limit) × ((script : Asked) × (script_of bytes ≡ Some script))
+
+-- Completeness: where the bytes are told and accepted and no fault is counted, the status is 0, or 6 for want of memory.
+abbrev pub Completes : Option (List ℕ) → ℕ → ℕ → ℕ → ℕ → ℕ → Type 0
+Completes left reads reads_new writes writes_new status =
+    (bytes : List ℕ) → left ≡ Some bytes → IsAccepted bytes → (Rose reads reads_new → ⊥) → (Rose writes writes_new → ⊥) → (status ≡ 0) ⊎ (status ≡ 6)
+
+-- Where the bytes are told and refused and no read fault is counted, the status is 3, or 6 for want of memory.
+abbrev pub Refuses : Option (List ℕ) → ℕ → ℕ → ℕ → Type 0
+Refuses left reads reads_new status =
+    (bytes : List ℕ) → left ≡ Some bytes → IsRefused bytes → (Rose reads reads_new → ⊥) → (status ≡ 3) ⊎ (status ≡ 6)

@@ -1,0 +1,179 @@
+// The top call.
+ghost use Rattle.std.specs.Prelude.{◌≡◌, ◌≢◌, ◌↔◌, ◌+◌, ◌<◌, ◌≤◌, ◌⊎◌, Some, None, IfOk, IfSome, IsErrOf, OnOk, OnErr, IsTrue, IsSome, List, ℕ, not};
+ghost use Rattle.std.specs.List.{list_all};
+ghost use Rattle.std.specs.Io.KnownBytes.{Appends};
+ghost use Rattle.ql_base.specs.Bytes.{AppendsFront, TakesUpTo};
+ghost use Rattle.ql_base.specs.Causes.{Rose};
+ghost use Rattle.query_rules.specs.History.{asks_ledger};
+ghost use Rattle.server_run.specs.Serve.{limit, is_supported, Reads, IsLogOf, WritesOneHistory, WritesFront, IsRefused, Completes, Refuses};
+ghost use Rattle.server_run.specs.Words.{options_in};
+
+use crate::order::order_of;
+use crate::run::run_script;
+use crate::{WordsFault, check_words};
+use ql_base::{Clocks, Gate, ReadFault, Sink, Source, read_to_end};
+use query_text::{Callers, ParseFault, Query, Script, parse_script, write_log};
+use std::alloc::Global;
+use std::sync::Wait;
+use std::thread::Threads;
+
+/// The most bytes that a script may have.
+const LIMIT: usize = 67_108_864;
+
+const DONE: u8 = 0;
+
+const USAGE: u8 = 2;
+
+const REFUSED: u8 = 3;
+
+const READ_FAULT: u8 = 4;
+
+const WRITE_FAULT: u8 = 5;
+
+const NO_MEMORY: u8 = 6;
+
+// Why no script was read.
+#[derive(Clone, Copy, Debug, PartialEq, Eq)]
+enum ScriptFault {
+    Read,
+    Refused,
+    NoMemory,
+}
+
+// Why no log was written.
+#[derive(Clone, Copy, Debug, PartialEq, Eq)]
+enum LogFault {
+    Write,
+    NoMemory,
+}
+
+// Whether the ledger is asked, which isn't answered yet.
+fn asks_the_ledger(query: &Query) -> bool
+    ensures { result ≡ asks_ledger query.now }
+{
+    matches!(
+        query,
+        Query::Give { .. } | Query::Take { .. } | Query::Audit
+    )
+}
+
+fn all_answered(queries: &[Query]) -> bool
+    ensures { result ≡ list_all (λ q. not (asks_ledger q)) queries.now }
+{
+    queries.iter().all(|query| !asks_the_ledger(query))
+}
+
+// Whether all queries of a script are answered.
+fn is_answered(callers: &Callers) -> bool
+    ensures { result ≡ is_supported callers.now }
+{
+    for caller in 0..callers.count() {
+        if !all_answered(callers.queries(caller)) {
+            return false;
+        }
+    }
+    true
+}
+
+// Reads the source to its end, and the script that its bytes ask.
+fn read_script<S: Source>(alloc: Global, source: &mut S) -> Result<Script, ScriptFault>
+    ensures read { IfOk result (λ script. Reads (S.left source.old) (S.left source.new) script) }
+    ensures answered { IfOk result (λ script. IsTrue (is_supported script.callers)) }
+    ensures refused { IsErrOf result ScriptFault.Refused → IfSome (S.left source.old) IsRefused }
+    ensures fault { IsErrOf result ScriptFault.Read → Rose (S.faults source.old) (S.faults source.new) }
+    ensures counted { TakesUpTo (S.left source.old) (S.left source.new) (limit + 1) }
+{
+    let bytes = match read_to_end(alloc, source, LIMIT) {
+        Ok(bytes) => bytes,
+        Err(ReadFault::Fault) => return Err(ScriptFault::Read),
+        Err(ReadFault::TooLong) => return Err(ScriptFault::Refused),
+        Err(ReadFault::NoMemory) => return Err(ScriptFault::NoMemory),
+    };
+    match parse_script(alloc, &bytes) {
+        Ok(script) if is_answered(script.callers()) => Ok(script),
+        Ok(_) => Err(ScriptFault::Refused),
+        Err(ParseFault::Refused { .. }) => Err(ScriptFault::Refused),
+        Err(ParseFault::NoMemory) => Err(ScriptFault::NoMemory),
+    }
+}
+
+// Asks the queries of a script, and writes the log.
+fn answer<K: Sink, G: Gate>(
+    alloc: Global,
+    script: &Script,
+    rows: u64,
+    sink: &mut K,
+    gate: &G,
+) -> Result<(), LogFault>
+    requires answered { IsTrue (is_supported script.now.callers) }
+    ensures written { OnOk result ((text : List ℕ) × IsLogOf script.now rows text × Appends (K.written sink.old) (K.written sink.new) text) }
+    ensures cut { IsErrOf result LogFault.Write → (text : List ℕ) × IsLogOf script.now rows text × AppendsFront (K.written sink.old) (K.written sink.new) text }
+    ensures fault { IsErrOf result LogFault.Write → Rose (K.faults sink.old) (K.faults sink.new) }
+    ensures memory { IsErrOf result LogFault.NoMemory → sink.new ≡ sink.old }
+{
+    let Ok(outcome) = run_script(alloc, script, rows, gate) else {
+        return Err(LogFault::NoMemory);
+    };
+    let Ok(order) = order_of(alloc, &outcome) else {
+        return Err(LogFault::NoMemory);
+    };
+    match write_log(sink, script, rows, &outcome, &order) {
+        Ok(()) => Ok(()),
+        Err(_) => Err(LogFault::Write),
+    }
+}
+
+/// Does all that the program does, and answers its status: 0 done, 2 usage, 3 refused, 4 a read
+/// fault, 5 a write fault, 6 no memory.
+///
+/// The steps come in this order: the words, the reading, its length, the grammar, the queries, the
+/// writing. Want of memory may end it at each step but the last. Nobody else asks yet, so the
+/// runtime and the clocks aren't used.
+pub fn serve_main<R: Threads + Wait + Sync, S: Source, K: Sink, T: Clocks, G: Gate>(
+    _rt: &R,
+    alloc: Global,
+    words: &[String],
+    source: &mut S,
+    sink: &mut K,
+    _clocks: &T,
+    gate: &G,
+) -> u8
+    // Whatever the schedule, status 0 has written exactly the printed form of one history.
+    ensures history { result ≡ 0 → IfSome (options_in words.now) (λ o. WritesOneHistory (S.left source.old) (S.left source.new) (K.written sink.old) (K.written sink.new) o.rows) }
+
+    // Each other status has its cause.
+    ensures usage { (result ≡ 2) ↔ (options_in words.now ≡ None) }
+    ensures refused { result ≡ 3 → IfSome (S.left source.old) IsRefused }
+    ensures read_fault { result ≡ 4 → Rose (S.faults source.old) (S.faults source.new) }
+    ensures write_fault { result ≡ 5 → Rose (K.faults sink.old) (K.faults sink.new) }
+    ensures cut { result ≡ 5 → IfSome (options_in words.now) (λ o. WritesFront (S.left source.old) (S.left source.new) (K.written sink.old) (K.written sink.new) o.rows) }
+    ensures known { (result ≡ 0) ⊎ (result ≡ 2) ⊎ (result ≡ 3) ⊎ (result ≡ 4) ⊎ (result ≡ 5) ⊎ (result ≡ 6) }
+
+    // With words that ask for a run, bytes that are accepted are answered, and others are refused.
+    ensures complete { IsSome (options_in words.now) → Completes (S.left source.old) (S.faults source.old) (S.faults source.new) (K.faults sink.old) (K.faults sink.new) result }
+    ensures refuses { IsSome (options_in words.now) → Refuses (S.left source.old) (S.faults source.old) (S.faults source.new) result }
+
+    // Nothing is written but at statuses 0 and 5, and at status 2 nothing is read.
+    ensures silent { result ≢ 0 → result ≢ 5 → sink.new ≡ sink.old }
+    ensures unread { result ≡ 2 → source.new ≡ source.old }
+
+    // Reading stops once one byte more came than a script may have.
+    ensures counted { TakesUpTo (S.left source.old) (S.left source.new) (limit + 1) }
+{
+    let options = match check_words(words) {
+        Ok(options) => options,
+        Err(WordsFault::Usage) => return USAGE,
+        Err(WordsFault::NoMemory) => return NO_MEMORY,
+    };
+    let script = match read_script(alloc, source) {
+        Ok(script) => script,
+        Err(ScriptFault::Read) => return READ_FAULT,
+        Err(ScriptFault::Refused) => return REFUSED,
+        Err(ScriptFault::NoMemory) => return NO_MEMORY,
+    };
+    match answer(alloc, &script, options.rows, sink, gate) {
+        Ok(()) => DONE,
+        Err(LogFault::Write) => WRITE_FAULT,
+        Err(LogFault::NoMemory) => NO_MEMORY,
+    }
+}
