@@ -189,6 +189,7 @@ impl Sink for MemSink {
             return Err(self.calls.count_fault());
         }
         let count = piece.len().min(self.room);
+        // The room was reserved, so this can't fail.
         self.bytes.extend_from_slice(&piece[..count]).unwrap();
         self.room -= count;
         Ok(count)

@@ -1,9 +1,9 @@
 //! What no clause says: that each call succeeds with ample memory, and worked examples.
 use crate::{
-    Clock, Clocks, Failed, Gate, ListClock, ListClocks, MemSink, MemSource, OpenGate, ReadFault,
-    Sink, Source, read_to_end, write_whole,
+    Clock, Clocks, Failed, Gate, ListClock, ListClocks, MemSink, MemSource, NoMemory, OpenGate,
+    ReadFault, Sink, Source, read_to_end, write_whole,
 };
-use std::alloc::AllocError;
+use std::alloc::{AllocError, Global};
 use std::thread::{Threads, join};
 
 #[test]
@@ -97,6 +97,17 @@ fn a_listed_clock_gives_its_last_answer_again(rt: HostRuntime) -> Result<(), All
         assert_eq!(rt; clock.now(), want);
     }
     Ok(())
+}
+
+fn one_pushed(alloc: Global) -> Result<Vec<u64>, NoMemory> {
+    let mut values = Vec::new(alloc);
+    values.push(3)?;
+    Ok(values)
+}
+
+#[test]
+fn a_push_finds_memory(rt: HostRuntime) {
+    assert!(rt; one_pushed(rt.alloc()).is_ok());
 }
 
 // What each of two callers is answered first and second by its own clock, on threads of their own.

@@ -47,7 +47,7 @@ impl<R: Read> Source for StdSource<R> {
     }
 }
 
-// One read, tried again where a signal interrupts it.
+// One read, tried again where a signal interrupts it. The loop counts, so that it is proved to end.
 fn read_uninterrupted<R: Read>(reader: &mut R, buf: &mut [u8]) -> io::Result<usize>
     ensures { IfOk result (λ n. n ≤ length buf.new) }
 {
@@ -57,6 +57,7 @@ fn read_uninterrupted<R: Read>(reader: &mut R, buf: &mut [u8]) -> io::Result<usi
             answer => return answer,
         }
     }
+    // No run comes here: it would have been interrupted as often as a u64 counts.
     reader.read(buf)
 }
 

@@ -17,3 +17,6 @@ pub use order::order_of;
 pub use run::run_script;
 pub use serve::serve_main;
 pub use words::{Options, RunMode, WordsFault, check_words};
+
+#[cfg(test)]
+mod tests;

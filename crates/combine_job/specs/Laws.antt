@@ -1,0 +1,173 @@
+-- The rule of parcels is kept by each step of a chain.
+use Rattle.std.specs.Prelude.{◌≡◌, ℕ, ◌+◌, ◌≤◌, ◌<◌, Result, List, [], ◌∷◌, ◌++◌, length}
+use Rattle.std.proofs.Common.{set, arith, refl, sym, ap, ◌∙◌, subst, ⊎_elim}
+use Rattle.std.proofs.lemmas.List.{map-append}
+use mathlib.Core.Option.{some, none, some-injective, some-ne-none, Option as Maybe}
+use lib.ListN.{get_elem?}
+use Rattle.atomic_table.proofs.Lists.{set_else}
+use Rattle.view_sums.specs.Sums.{total, total-set, total-append}
+use Rattle.waiter_chain.specs.declared.view.Opening.{Opening}
+use Rattle.waiter_chain.specs.Goods.{Goods, Part, part, opened, Runs, Pays, Posts, Ends, Serves, Collects, Cuts, Merges, answers_of}
+use Rattle.combine_job.specs.declared.parcel.Kept.{Kept}
+use Rattle.combine_job.specs.declared.parcel.Parcel.{Parcel}
+use Rattle.combine_job.specs.declared.parcel.Parcel.TheVariants.{Value, Posted, Answered}
+use Rattle.combine_job.specs.Parcels.{Related, Admits, IsJob, Ruled, weight, one, quotas}
+use Rattle.combine_job.specs.Below.{put_some, below-put, below-nothing}
+
+module _ {P : Type 0} (relates : P → P → P → P → Type 0) where
+  pub runs-append : (xs ys : List (P × P)) (v u w : P) → Runs relates v xs u → Runs relates u ys w → Runs relates v (xs ++ ys) w
+  runs-append [] ys v u w r t = subst (λ (z : P). Runs relates z ys w) (sym r) t
+  runs-append (x ∷ xs) ys v u w r t = (r.0, r.1, runs-append xs ys r.0 u w r.2 t)
+
+pub answers-append : {P : Type 0} (w : P → ℕ) (xs ys : List (P × P)) → total w (answers_of (xs ++ ys)) ≡ total w (answers_of xs) + total w (answers_of ys)
+answers-append w xs ys = ap (total w) (map-append (λ x. x.1) xs ys) ∙ total-append w (answers_of xs) (answers_of ys)
+
+module _ {V J O X : Type 0} where
+  value_of : Kept V → Parcel V J O X → Kept V
+  value_of d (Value k) = k
+  value_of d (Posted j) = d
+  value_of d (Answered a) = d
+
+  pub value-injective : (k l : Kept V) → ◌≡◌ {A = Parcel V J O X} (Value k) (Value l) → k ≡ l
+  unfolding value_of
+  value-injective k l e = ap (value_of k) e
+
+  cost : (m : Maybe (Parcel V J O X)) (ran : List (Parcel V J O X × Parcel V J O X)) (before after : ℕ) → Pays m ran before after → before + one m ≡ after + length ran
+  cost none ran before after p = omega (arith, p)
+  cost (some j) ran before after p = omega (arith, p.0)
+
+module _ {V J O X : Type 0} (rooms : V → ℕ) (means : V → J → Result O X → V → Type 0) where
+  -- what a run of jobs does to the room and the count
+  abbrev pub Leads : Kept V → List (Parcel V J O X × Parcel V J O X) → Parcel V J O X → Type 0
+  Leads k ran w = (l : Kept V) × (w ≡ Value l) × (rooms k.value ≤ rooms l.value + length ran) × (l.ran ≡ k.ran + length ran)
+
+  pub runs_lead : (ran : List (Parcel V J O X × Parcel V J O X)) (v w : Parcel V J O X) (k : Kept V) → v ≡ Value k → Runs (Related rooms means) v ran w → Leads k ran w
+  runs_lead [] v w k e r = (k, sym r ∙ e, omega arith, omega arith)
+  runs_lead (x ∷ xs) v w k e r =
+      let t = r.1 in let same-k : t.0 ≡ k = value-injective {J = J} {O = O} {X = X} t.0 k (sym t.4 ∙ e) in
+      let rest = runs_lead xs r.0 w t.1 t.5 r.2 in
+      let rooms-k : rooms t.0.value ≡ rooms k.value = ap (λ (y : Kept V). rooms y.value) same-k in let ran-k : t.0.ran ≡ k.ran = ap (λ (y : Kept V). y.ran) same-k in
+      (rest.0, rest.1, omega (arith, rest.2, t.11), omega (arith, rest.3, t.9))
+
+module _ {V J O X : Type 0} (rooms : V → ℕ) (means : V → J → Result O X → V → Type 0) (is_ready : J → Type 0) where
+  abbrev Rule : Opening (Parcel V J O X) → Goods (Parcel V J O X) → Type 0
+  Rule o g = Ruled rooms means is_ready o g
+
+  pub opens : (o : Opening (Parcel V J O X)) → o.quota < 18446744073709551616 → Admits rooms o.first.value o.quota → Rule o (opened o.first.value o.quota)
+  opens o small a = record {
+    first = a.0;
+    now = a.0;
+    history = [];
+    began = a.1;
+    none_ran = a.2;
+    is = a.1;
+    runs = refl;
+    answers = λ w. omega (arith, below-nothing (weight w) o.nodes refl);
+    jobs = λ n x e. absurd (some-ne-none x (sym e));
+    room = omega (arith, a.3, below-nothing {P = Parcel V J O X} one o.nodes refl);
+    paid = omega (arith, a.2, below-nothing {P = Parcel V J O X} one o.nodes refl);
+    small = small;
+  }
+
+  pub posts : (o : Opening (Parcel V J O X)) → Posts (Rule o) o.nodes (IsJob is_ready)
+  posts o g i q n xs job r low me good empty unanswered = let now = part q xs in record {
+    first = r.first;
+    now = r.now;
+    history = r.history;
+    began = r.began;
+    none_ran = r.none_ran;
+    is = r.is;
+    runs = r.runs;
+    answers = λ w. omega (arith, r.answers w, total-set (λ (x : Part (Parcel V J O X)). total w x.own) g.parts i (part (q + 1) xs) now me);
+    jobs = λ m x e. ⊎_elim (λ (t : (m ≡ n) × (some job ≡ some x)). subst (IsJob is_ready) (some-injective job x t.1) good) (λ t. r.jobs m x t) (put_some g.posted n m (some job) x e);
+    room = omega (arith, r.room, below-put one g.posted n o.nodes (some job) low, ap one empty, total-set (λ (x : Part (Parcel V J O X)). x.quota) g.parts i (part (q + 1) xs) now me);
+    paid = omega (arith, r.paid, below-put one g.posted n o.nodes (some job) low, ap one empty, total-set (λ (x : Part (Parcel V J O X)). x.quota) g.parts i (part (q + 1) xs) now me);
+    small = r.small;
+  }
+
+  pub ends : (o : Opening (Parcel V J O X)) → Ends (Rule o) o.nodes (Related rooms means)
+  ends o g i n before after xs ran w r low me runs pays unanswered =
+      let l = runs_lead rooms means ran g.value w r.now r.is runs in let now = part after (xs ++ answers_of ran) in let paid-for = cost (g.posted n) ran before after pays in record {
+        first = r.first;
+        now = l.0;
+        history = r.history ++ ran;
+        began = r.began;
+        none_ran = r.none_ran;
+        is = l.1;
+        runs = runs-append (Related rooms means) r.history ran o.first.value g.value w r.runs runs;
+        answers = λ h. omega (arith, r.answers h, total-set (λ (x : Part (Parcel V J O X)). total h x.own) g.parts i (part before xs) now me, total-append h xs (answers_of ran), answers-append h r.history ran);
+        jobs = λ m x e. ⊎_elim (λ (t : (m ≡ n) × (none ≡ some x)). absurd (some-ne-none x (sym t.1))) (λ t. r.jobs m x t) (put_some g.posted n m none x e);
+        room = omega (arith, r.room, l.2, paid-for, below-put one g.posted n o.nodes none low, total-set (λ (x : Part (Parcel V J O X)). x.quota) g.parts i (part before xs) now me);
+        paid = omega (arith, r.paid, l.3, paid-for, below-put one g.posted n o.nodes none low, total-set (λ (x : Part (Parcel V J O X)). x.quota) g.parts i (part before xs) now me);
+        small = r.small;
+      }
+
+  pub serves : (o : Opening (Parcel V J O X)) → Serves (Rule o) o.nodes (Related rooms means)
+  serves o g n job answer w r low filled unanswered related =
+      let ran : List (Parcel V J O X × Parcel V J O X) = (job, answer) ∷ [] in let runs : Runs (Related rooms means) g.value ran w = (w, related, refl) in let l = runs_lead rooms means ran g.value w r.now r.is runs in record {
+        first = r.first;
+        now = l.0;
+        history = r.history ++ ran;
+        began = r.began;
+        none_ran = r.none_ran;
+        is = l.1;
+        runs = runs-append (Related rooms means) r.history ran o.first.value g.value w r.runs runs;
+        answers = λ h. omega (arith, r.answers h, answers-append h r.history ran, below-put (weight h) g.answered n o.nodes (some answer) low, ap (weight h) unanswered);
+        jobs = λ m x e. ⊎_elim (λ (t : (m ≡ n) × (none ≡ some x)). absurd (some-ne-none x (sym t.1))) (λ t. r.jobs m x t) (put_some g.posted n m none x e);
+        room = omega (arith, r.room, l.2, below-put one g.posted n o.nodes none low, ap one filled);
+        paid = omega (arith, r.paid, l.3, below-put one g.posted n o.nodes none low, ap one filled);
+        small = r.small;
+      }
+
+  pub collects : (o : Opening (Parcel V J O X)) → Collects (Rule o) o.nodes
+  collects o g i q n xs answer r low me filled = let now = part q (xs ++ answer ∷ []) in record {
+    first = r.first;
+    now = r.now;
+    history = r.history;
+    began = r.began;
+    none_ran = r.none_ran;
+    is = r.is;
+    runs = r.runs;
+    answers = λ w. omega (arith, r.answers w, total-set (λ (x : Part (Parcel V J O X)). total w x.own) g.parts i (part q xs) now me, total-append w xs (answer ∷ []), below-put (weight w) g.answered n o.nodes none low, ap (weight w) filled);
+    jobs = r.jobs;
+    room = omega (arith, r.room, total-set (λ (x : Part (Parcel V J O X)). x.quota) g.parts i (part q xs) now me);
+    paid = omega (arith, r.paid, total-set (λ (x : Part (Parcel V J O X)). x.quota) g.parts i (part q xs) now me);
+    small = r.small;
+  }
+
+  pub cuts : (o : Opening (Parcel V J O X)) → Cuts (Rule o)
+  cuts o g i q n xs r me =
+      let ps = set g.parts i (part q xs) in let new : List (Part (Parcel V J O X)) = part n [] ∷ [] in
+      let quota-sum : quotas (ps ++ new) ≡ quotas g.parts = omega (arith, total-append (λ (x : Part (Parcel V J O X)). x.quota) ps new, total-set (λ (x : Part (Parcel V J O X)). x.quota) g.parts i (part (q + n) xs) (part q xs) me) in record {
+        first = r.first;
+        now = r.now;
+        history = r.history;
+        began = r.began;
+        none_ran = r.none_ran;
+        is = r.is;
+        runs = r.runs;
+        answers = λ w. omega (arith, r.answers w, total-append (λ (x : Part (Parcel V J O X)). total w x.own) ps new, total-set (λ (x : Part (Parcel V J O X)). total w x.own) g.parts i (part (q + n) xs) (part q xs) me);
+        jobs = r.jobs;
+        room = omega (arith, r.room, quota-sum);
+        paid = omega (arith, r.paid, quota-sum);
+        small = r.small;
+      }
+
+  pub merges : (o : Opening (Parcel V J O X)) → Merges (Rule o)
+  merges o g i j q n xs ys r apart me them =
+      let now = part (q + n) (xs ++ ys) in let ps = set g.parts i now in
+      let there : get_elem? ps j ≡ some (part n ys) = set_else g.parts i j now apart ∙ them in
+      let quota-sum : quotas (set ps j (part 0 [])) ≡ quotas g.parts = omega (arith, total-set (λ (x : Part (Parcel V J O X)). x.quota) g.parts i (part q xs) now me, total-set (λ (x : Part (Parcel V J O X)). x.quota) ps j (part n ys) (part 0 []) there) in record {
+        first = r.first;
+        now = r.now;
+        history = r.history;
+        began = r.began;
+        none_ran = r.none_ran;
+        is = r.is;
+        runs = r.runs;
+        answers = λ w. omega (arith, r.answers w, total-set (λ (x : Part (Parcel V J O X)). total w x.own) g.parts i (part q xs) now me, total-set (λ (x : Part (Parcel V J O X)). total w x.own) ps j (part n ys) (part 0 []) there, total-append w xs ys);
+        jobs = r.jobs;
+        room = omega (arith, r.room, quota-sum);
+        paid = omega (arith, r.paid, quota-sum);
+        small = r.small;
+      }

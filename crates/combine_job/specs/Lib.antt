@@ -1,0 +1,4 @@
+pub mod Once
+pub mod Parcels
+pub mod Below
+pub mod Laws

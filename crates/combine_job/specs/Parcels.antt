@@ -1,0 +1,78 @@
+-- Parcels as the freight of a chain: jobs on a value with a room, and the one history of the jobs that ran.
+use Rattle.std.specs.Prelude.{◌≡◌, ℕ, ◌+◌, ◌≤◌, ◌<◌, Result, Option, Some, None, List, cond, nat_lt}
+use mathlib.Core.Option.{some, none, Option as Maybe}
+use Rattle.view_sums.specs.Sums.{total, same}
+use Rattle.waiter_chain.specs.Goods.{Goods, Part, Runs, answers_of, below}
+use Rattle.waiter_chain.specs.declared.view.Opening.{Opening}
+use Rattle.combine_job.specs.declared.parcel.Kept.{Kept}
+use Rattle.combine_job.specs.declared.parcel.JobAnswer.{JobAnswer}
+use Rattle.combine_job.specs.declared.parcel.Parcel.{Parcel}
+use Rattle.combine_job.specs.declared.parcel.Parcel.TheVariants.{Value, Posted, Answered}
+
+module _ {V J O X : Type 0} (rooms : V → ℕ) (means : V → J → Result O X → V → Type 0) where
+  -- the job runs on the first value, at its position, and leaves the second: the answer is the plain meaning of the job
+  abbrev pub Related : Parcel V J O X → Parcel V J O X → Parcel V J O X → Parcel V J O X → Type 0
+  Related v j a w = (k : Kept V) × (l : Kept V) × (job : J) × (answer : JobAnswer O X) × (v ≡ Value k) × (w ≡ Value l) × (j ≡ Posted job) × (a ≡ Answered answer)
+      × (answer.at ≡ k.ran) × (l.ran ≡ k.ran + 1) × means k.value job answer.result l.value × (rooms k.value ≤ rooms l.value + 1)
+
+module _ {V J O X : Type 0} where
+  -- a first value: no job ran on it, and it has room for the quota
+  abbrev pub Admits : (V → ℕ) → Parcel V J O X → ℕ → Type 0
+  Admits rooms v q = (k : Kept V) × (v ≡ Value k) × (k.ran ≡ 0) × (q ≤ rooms k.value)
+
+  abbrev pub IsJob : (J → Type 0) → Parcel V J O X → Type 0
+  IsJob is_ready v = (j : J) × (v ≡ Posted j) × is_ready j
+
+  -- the kept value, where this is one
+  abbrev pub kept_in : Parcel V J O X → Option (Kept V)
+  kept_in (Value k) = Some k
+  kept_in (Posted j) = None
+  kept_in (Answered a) = None
+
+  -- 1 where this is an answer with the position p
+  abbrev pub place : ℕ → Parcel V J O X → ℕ
+  place p (Value k) = 0
+  place p (Posted j) = 0
+  place p (Answered a) = same a.at p
+
+  -- how often the position p is among these
+  abbrev pub places : ℕ → List (Parcel V J O X) → ℕ
+  places p xs = total (place p) xs
+
+  -- these answers have the positions below n, each once
+  abbrev pub EachOnce : List (Parcel V J O X) → ℕ → Type 0
+  EachOnce xs n = (p : ℕ) → places p xs ≡ cond (nat_lt p n) 1 0
+
+  -- the weight of what a node has, where it has something
+  abbrev pub weight : (Parcel V J O X → ℕ) → Maybe (Parcel V J O X) → ℕ
+  weight w none = 0
+  weight w (some x) = w x
+
+  abbrev pub one : Maybe (Parcel V J O X) → ℕ
+  one none = 0
+  one (some x) = 1
+
+  abbrev pub quotas : List (Part (Parcel V J O X)) → ℕ
+  quotas ps = total (λ x. x.quota) ps
+
+  -- the weights of all answers in the passes' own lists
+  abbrev pub all_own : (Parcel V J O X → ℕ) → List (Part (Parcel V J O X)) → ℕ
+  all_own w ps = total (λ x. total w x.own) ps
+
+module _ {V J O X : Type 0} (rooms : V → ℕ) (means : V → J → Result O X → V → Type 0) (is_ready : J → Type 0) where
+  pub record Ruled (o : Opening (Parcel V J O X)) (g : Goods (Parcel V J O X)) : Type 0 where
+    pub first : Kept V
+    pub now : Kept V
+    -- the jobs that ran, each with its answer, the first one first
+    pub history : List (Parcel V J O X × Parcel V J O X)
+    pub began : o.first.value ≡ Value first
+    pub none_ran : first.ran ≡ 0
+    pub is : g.value ≡ Value now
+    pub runs : Runs (Related rooms means) o.first.value history g.value
+    -- the answers in the passes' own lists and in answer slots are those of the history: by every weight, so each as often as there
+    pub answers : (w : Parcel V J O X → ℕ) → all_own w g.parts + below (weight w) g.answered o.nodes ≡ total w (answers_of history)
+    pub jobs : (n : ℕ) (x : Parcel V J O X) → g.posted n ≡ some x → IsJob is_ready x
+    -- there is room for all quotas, and for the posted jobs that have not run
+    pub room : quotas g.parts + below one g.posted o.nodes ≤ rooms now.value
+    pub paid : now.ran + (quotas g.parts + below one g.posted o.nodes) ≤ o.quota
+    pub small : o.quota < 18446744073709551616

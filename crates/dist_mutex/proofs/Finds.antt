@@ -1,0 +1,98 @@
+-- What an owner that has just won the lock knows of the value, and what a close knows.
+use Rattle.std.proofs.Common.{◌≡◌, ℕ, ◌+◌, Result, Option, Some, None, List, [], ◌∷◌, ◌++◌, length, false, refl, sym, ap, ◌∙◌, subst, arith}
+use Rattle.view_sums.specs.Sums.{total, term_le}
+use Rattle.waiter_chain.specs.Goods.{Part, part, resting, Runs, answers_of}
+use Rattle.waiter_chain.specs.Chains.{part_of}
+use Rattle.waiter_chain.specs.Steps.{SeatState, Sound, ownership, moved}
+use Rattle.waiter_chain.specs.Calls.{Won}
+use Rattle.waiter_chain.specs.declared.view.Opening.{Opening}
+use Rattle.waiter_chain.specs.declared.view.View.{View}
+use Rattle.waiter_chain.specs.declared.view.Entry.{Entry}
+use Rattle.waiter_chain.specs.declared.view.Stage.TheVariants.{Owns}
+use Rattle.waiter_chain.specs.declared.turn.Turn.{Turn}
+use Rattle.combine_job.specs.declared.parcel.Kept.{Kept}
+use Rattle.combine_job.specs.declared.parcel.Parcel.{Parcel}
+use Rattle.combine_job.specs.declared.parcel.Parcel.TheVariants.{Value}
+use Rattle.combine_job.specs.Parcels.{Related, Ruled, place, weight, kept_in}
+use Rattle.combine_job.specs.Below.{below-nothing}
+use Rattle.combine_job.specs.Laws.{value-injective, runs-append}
+use Rattle.combine_job.proofs.Positions.{history-once}
+use Rattle.dist_mutex.specs.Owners.{Stands, Owning, LockedBy, Ends}
+
+pub some_inside : {A : Type 0} (x y : A) → ◌≡◌ {A = Option A} (Some x) (Some y) → x ≡ y
+some_inside x y e = cc
+
+-- the two slots in one hand are the same
+pub in_hand : {A : Type 0} (x y : A) → ◌≡◌ {A = List (ℕ × A)} ((0, x) ∷ []) ((0, y) ∷ []) → x ≡ y
+in_hand x y e = ap (λ (l : List (ℕ × _)). first l x) e
+  where
+    first : {A : Type 0} → List (ℕ × A) → A → A
+    first [] d = d
+    first (z ∷ zs) d = z.1
+
+module _ {V J O X : Type 0} (rooms : V → ℕ) (means : V → J → Result O X → V → Type 0) (is_ready : J → Type 0) (o : Opening (Parcel V J O X)) where
+  pub stands : (y : Parcel V J O X) (q : ℕ) (own : List (Parcel V J O X)) → Sound (Ruled rooms means is_ready o) y (part q own) → (kept : Kept V) × (y ≡ Value kept) × Stands rooms means o own q kept
+  stands y q own s =
+      let parts = s.0 in let r : Ruled rooms means is_ready o (resting y parts) = s.1 in
+      let runs : Runs (Related rooms means) o.first.value r.history (Value r.now) = subst (Runs (Related rooms means) o.first.value r.history) r.is r.runs in
+      let enough = term_le (λ (x : Part (Parcel V J O X)). x.quota) parts s.2.0 (part q own) s.2.1 in (
+        r.now,
+        r.is,
+        record {
+          history = r.history;
+          runs = runs;
+          once = history-once rooms means r.history o.first.value (Value r.now) r.first r.now r.began refl r.none_ran runs;
+          mine = λ w. omega (arith, term_le (λ (x : Part (Parcel V J O X)). total w x.own) parts s.2.0 (part q own) s.2.1, r.answers w);
+          room = omega (arith, r.room, enough);
+          count = omega (arith, r.paid, enough);
+          small = r.small;
+        },
+      )
+
+  pub locks : (slots : ℕ) (t : Turn) (m old n : SeatState (Parcel V J O X)) (e : Entry) (parcel : Parcel V J O X) (kept : Kept V) → Won (Ruled rooms means is_ready o) slots t m e old
+      → old.1 ≡ (0, Some parcel) ∷ [] → parcel ≡ Value kept → n ≡ (old.0, (0, None) ∷ []) → LockedBy rooms means o slots m n e t kept
+  locks slots t m old n e parcel kept w hand is now =
+      let y : Parcel V J O X = w.0 in
+      let same : y ≡ Value kept = some_inside y parcel (in_hand (Some y) (Some parcel) (sym (ap (λ (x : SeatState (Parcel V J O X)). x.1) w.1) ∙ hand)) ∙ is in
+      let s = stands y m.0.quota m.0.own w.3 in
+      let known : Stands rooms means o m.0.own m.0.quota kept = subst (Stands rooms means o m.0.own m.0.quota) (value-injective {J = J} {O = O} {X = X} s.0 kept (sym s.1 ∙ same)) s.2 in
+      let view : old.0 ≡ moved m.0 (Owns (ownership t.first t.end t.mark false (Value kept))) e = ap (λ (x : SeatState (Parcel V J O X)). x.0) w.1 ∙ ap (λ (z : Parcel V J O X). moved m.0 (Owns (ownership t.first t.end t.mark false z)) e) same in
+      let state : n ≡ (moved m.0 (Owns (ownership t.first t.end t.mark false (Value kept))) e, (0, None) ∷ []) = now ∙ ap (λ (v : View (Parcel V J O X)). (v, (0, None) ∷ [])) view in
+      let quota : n.0.quota ≡ m.0.quota = ap (λ (x : SeatState (Parcel V J O X)). x.0.quota) state in (
+        state,
+        known,
+        record {
+          notes = ownership t.first t.end t.mark false (Value kept);
+          owns = (ap (λ (x : SeatState (Parcel V J O X)). x.0.stage) state, refl, refl, refl, ap (λ (x : SeatState (Parcel V J O X)). x.1) state, w.2);
+          runs = refl;
+          room = omega (arith, known.room, quota);
+          count = omega (arith, known.count, known.small, quota);
+          small = omega (arith, known.count, known.small, quota);
+        },
+      )
+
+  -- one job more
+  pub owns_more : (slots : ℕ) (m : SeatState (Parcel V J O X)) (ran : List (Parcel V J O X × Parcel V J O X)) (t : Turn) (kept later : Kept V) (job answer : Parcel V J O X)
+      → Owning rooms means slots m ran t kept → Related rooms means (Value kept) job answer (Value later) → Owning rooms means slots m (ran ++ (job, answer) ∷ []) t later
+  owns_more slots m ran t kept later job answer w r =
+      let k = value-injective {J = J} {O = O} {X = X} kept r.0 r.4 in let l = value-injective {J = J} {O = O} {X = X} later r.1 r.5 in
+      let long : length (ran ++ (job, answer) ∷ []) ≡ length ran + 1 = longer ran (job, answer) in record {
+        notes = w.notes;
+        owns = w.owns;
+        runs = runs-append (Related rooms means) ran ((job, answer) ∷ []) w.notes.value (Value kept) (Value later) w.runs (Value later, r, refl);
+        room = omega (arith, w.room, long, r.11, ap (λ (z : Kept V). rooms z.value) k, ap (λ (z : Kept V). rooms z.value) l);
+        count = omega (arith, w.count, long, r.9, ap (λ (z : Kept V). z.ran) k, ap (λ (z : Kept V). z.ran) l);
+        small = w.small;
+      }
+    where
+      longer : {A : Type 0} (xs : List A) (x : A) → length (xs ++ x ∷ []) ≡ length xs + 1
+      longer [] x = omega arith
+      longer (y ∷ ys) x = omega (arith, longer ys x)
+
+  -- where no other pass has anything left, the closing pass's answers are those of the history
+  pub all_answers : (v : View (Parcel V J O X)) (value : Parcel V J O X) (parts : List (Part (Parcel V J O X))) → Ruled rooms means is_ready o (resting value parts)
+      → ((w : Part (Parcel V J O X) → ℕ) → w (part 0 []) ≡ 0 → total w parts ≡ w (part_of v)) → Ends rooms means o v.own (kept_in value)
+  all_answers v value parts r alone =
+      let runs : Runs (Related rooms means) o.first.value r.history (Value r.now) = subst (Runs (Related rooms means) o.first.value r.history) r.is r.runs in
+      let same : (w : Parcel V J O X → ℕ) → total w v.own ≡ total w (answers_of r.history) = λ w. omega (arith, alone (λ (x : Part (Parcel V J O X)). total w x.own) refl, r.answers w, below-nothing (weight w) o.nodes refl) in
+      (r.now, r.history, ap kept_in r.is, runs, same, λ p. same (place p) ∙ history-once rooms means r.history o.first.value (Value r.now) r.first r.now r.began refl r.none_ran runs p)

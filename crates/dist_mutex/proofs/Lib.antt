@@ -1,0 +1,4 @@
+pub mod Finds
+pub mod Hands
+pub mod Waits
+pub mod Combines

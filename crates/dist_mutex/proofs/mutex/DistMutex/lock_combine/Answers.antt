@@ -1,0 +1,17 @@
+use Rattle.std.proofs.Common.{sym, subst, arith}
+use Rattle.dist_mutex.specs.Owners.{Owning}
+use Rattle.dist_mutex.proofs.Combines.{found, own_below}
+use Rattle.dist_mutex.proofs.mutex.DistMutex.lock_combine.Goals as goal
+
+pub run_owned-answer-requires-clause-owner : goal.run_owned-answer-requires-clause-owner
+run_owned-answer-requires-clause-owner g c =
+    let slots = c.args.self.now.chain.table.shared.table_id.slots in let l = c.lock-owner in
+    subst (λ ran. Owning g.V.Room.rooms g.J.Job.means slots l.new.pass.pass.seat.me ran l.result.turn l.result.kept) (sym l.ensures.runs)
+    (found g.V.Room.rooms g.J.Job.means c.args.self.now.chain.table.shared.key slots c.args.pass.now.pass.seat.me l.new.pass.pass.seat.me l.result.turn l.result.kept l.ensures.owner).1
+
+pub returns-clause-rises : goal.returns-clause-rises
+returns-clause-rises g c p far =
+    let l = c.lock-owner in let m = c.args.pass.now.pass.seat.me in
+    own_below g.V.Room.rooms g.J.Job.means c.args.self.now.chain.table.shared.key m.0.own m.0.quota l.result.kept
+    (found g.V.Room.rooms g.J.Job.means c.args.self.now.chain.table.shared.key c.args.self.now.chain.table.shared.table_id.slots m l.new.pass.pass.seat.me l.result.turn l.result.kept l.ensures.owner).0 p
+    (omega (arith, far, c.run_owned-answer.ensures.position.0))

@@ -1,0 +1,5 @@
+use Rattle.std.proofs.Common.{refl}
+use Rattle.dist_mutex.proofs.mutex.DistMutex.make.Goals as goal
+
+pub make-requires-clause-admits : goal.make-requires-clause-admits
+make-requires-clause-admits g c = (record { value = c.args.value; ran = 0 }, refl, refl, c.requires.room)

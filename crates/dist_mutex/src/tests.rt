@@ -1,0 +1,219 @@
+//! The distributed lock at work: its row of words, jobs of a counter and of an account, and many threads.
+ghost use Rattle.std.specs.Prelude.{◌≡◌, ◌+◌, ◌≤◌, length, []};
+ghost use Rattle.dist_mutex.specs.Owners.{IsFree};
+
+use crate::mutex::DistMutex;
+use crate::owner::Next;
+use crate::pass::DistPass;
+use combine_job::job::{Job, Room};
+use combine_job::once::OnceJob;
+use std::sync::Wait;
+use std::test::Fail;
+use std::thread;
+use waiter_chain::turn::{Entered, Kind, Polled};
+
+/// A sum of money, and how many jobs it can still take.
+#[derive(Drop)]
+struct Account {
+    balance: u64,
+    left: u64,
+}
+
+impl Room for Account {
+    ghost rooms = { λ a. a.left };
+
+    fn room(&self) -> u64 {
+        self.left
+    }
+}
+
+/// Why an account refuses.
+#[derive(Drop, PartialEq)]
+enum Refusal {
+    /// It has less: this much.
+    Short(u64),
+    /// It would have too much.
+    Over,
+}
+
+fn give(account: &mut Account, amount: u64) -> Result<u64, Refusal>
+    requires { 1 ≤ account.old.left }
+    ensures { account.new.left + 1 ≡ account.old.left }
+{
+    account.left -= 1;
+    match account.balance.checked_add(amount) {
+        Some(balance) => {
+            account.balance = balance;
+            Ok(balance)
+        }
+        None => Err(Refusal::Over),
+    }
+}
+
+fn withdraw(account: &mut Account, amount: u64) -> Result<u64, Refusal>
+    requires { 1 ≤ account.old.left }
+    ensures { account.new.left + 1 ≡ account.old.left }
+{
+    account.left -= 1;
+    if account.balance < amount {
+        return Err(Refusal::Short(account.balance));
+    }
+    account.balance -= amount;
+    Ok(account.balance)
+}
+
+#[derive(Drop)]
+enum Order {
+    Give(u64),
+    Take(u64),
+}
+
+impl Job<Account> for Order {
+    type Out = u64;
+
+    type Fault = Refusal;
+
+    ghost means = { λ v j r w. w.left + 1 ≡ v.left };
+
+    ghost is_ready = { λ j. Unit {0} };
+
+    fn run(self, value: &mut Account) -> Result<u64, Refusal> {
+        match self {
+            Order::Give(amount) => give(value, amount),
+            Order::Take(amount) => withdraw(value, amount),
+        }
+    }
+}
+
+type Bank = DistMutex<Account, Order>;
+
+type Clerk = DistPass<Account, Order>;
+
+fn an_account(jobs: u64) -> Account
+    ensures { (result.left ≡ jobs) × (result.balance ≡ 0) }
+{
+    Account {
+        balance: 0,
+        left: jobs,
+    }
+}
+
+#[test]
+fn waiters_get_the_lock_in_turn(rt: HostRuntime) -> Result<(), Fail> {
+    let (bank, mut zero) = Bank::make(rt.alloc(), 4, 0, 64, an_account(0))?;
+    let mut three = bank.split(&mut zero, 1, 0);
+    let mut two = bank.split(&mut zero, 1, 0);
+    let mut one = bank.split(&mut zero, 1, 0);
+    let owner = match bank.try_lock(&mut zero) {
+        Ok(owner) => owner,
+        Err(_busy) => panic!(rt; "the lock was taken"),
+    };
+    match bank.try_lock(&mut one) {
+        Ok(_owner) => panic!(rt; "two owners"),
+        Err(busy) => assert!(rt; busy.word == 1),
+    }
+    match bank.chain.enter(&mut one.pass, Kind::Plain) {
+        Entered::Owner(_turn) => panic!(rt; "node 1 owns the lock"),
+        Entered::Behind => {}
+    }
+    match bank.chain.enter(&mut two.pass, Kind::Plain) {
+        Entered::Owner(_turn) => panic!(rt; "node 2 owns the lock"),
+        Entered::Behind => {}
+    }
+    match bank.chain.enter(&mut three.pass, Kind::Plain) {
+        Entered::Owner(_turn) => panic!(rt; "node 3 owns the lock"),
+        Entered::Behind => {}
+    }
+    match bank.chain.poll(&mut two.pass) {
+        Polled::Owner(_turn) => panic!(rt; "node 2 was granted"),
+        Polled::Still { word } => assert!(rt; word == 1),
+    }
+    let released = bank.unlock(&mut zero, owner);
+    assert!(rt; released.combined == 0);
+    match released.next {
+        Next::Free => panic!(rt; "freed while three nodes wait"),
+        Next::Plain(node) => assert!(rt; node == 3),
+    }
+    match bank.try_lock(&mut zero) {
+        Ok(_owner) => panic!(rt; "two owners"),
+        Err(busy) => assert!(rt; busy.word == 1),
+    }
+    match bank.chain.poll(&mut three.pass) {
+        Polled::Still { word: _ } => panic!(rt; "node 3 still waits"),
+        Polled::Owner(turn) => {
+            let owner = bank.take(&mut three, turn);
+            match bank.unlock(&mut three, owner).next {
+                Next::Free => panic!(rt; "freed while two nodes wait"),
+                Next::Plain(node) => assert!(rt; node == 2),
+            }
+        }
+    }
+    match bank.chain.poll(&mut two.pass) {
+        Polled::Still { word: _ } => panic!(rt; "node 2 still waits"),
+        Polled::Owner(turn) => {
+            let owner = bank.take(&mut two, turn);
+            match bank.unlock(&mut two, owner).next {
+                Next::Free => panic!(rt; "freed while a node waits"),
+                Next::Plain(node) => assert!(rt; node == 1),
+            }
+        }
+    }
+    match bank.chain.poll(&mut one.pass) {
+        Polled::Still { word: _ } => panic!(rt; "node 1 still waits"),
+        Polled::Owner(turn) => {
+            let owner = bank.take(&mut one, turn);
+            match bank.unlock(&mut one, owner).next {
+                Next::Free => {}
+                Next::Plain(_node) => panic!(rt; "somebody else waits"),
+            }
+        }
+    }
+    match bank.try_lock(&mut zero) {
+        Err(_busy) => panic!(rt; "the lock is not free"),
+        Ok(owner) => {
+            let _released = bank.unlock(&mut zero, owner);
+        }
+    }
+    bank.join(&mut zero, one);
+    bank.join(&mut zero, two);
+    bank.join(&mut zero, three);
+    let (kept, retired) = bank.close(zero);
+    assert!(rt; retired.combine() == 64);
+    match kept {
+        Some(kept) => assert!(rt; kept.ran == 0 && kept.value.balance == 0),
+        None => panic!(rt; "the value is lost"),
+    }
+    Ok(())
+}
+
+#[test]
+fn an_owner_runs_jobs_at_rising_positions(rt: HostRuntime) -> Result<(), Fail> {
+    let (bank, mut pass) = Bank::make(rt.alloc(), 2, 4, 0, an_account(4))?;
+    assert!(rt;
+        bank.combine() == 0 && pass.quota() == 4 && pass.number() == 0 && pass.spare() == 1
+    );
+    let mut owner = match bank.try_lock(&mut pass) {
+        Ok(owner) => owner,
+        Err(_busy) => panic!(rt; "the lock was taken"),
+    };
+    let first = bank.run_owned(&mut pass, &mut owner, Order::Take(4));
+    let second = bank.run_owned(&mut pass, &mut owner, Order::Give(10));
+    assert!(rt; first.at == 0 && first.result == Err(Refusal::Short(0)));
+    assert!(rt; second.at == 1 && second.result == Ok(10));
+    assert!(rt; pass.quota() == 2 && owner.ran() == 2 && owner.value().balance == 10);
+    match bank.unlock(&mut pass, owner).next {
+        Next::Free => {}
+        Next::Plain(_node) => panic!(rt; "somebody waits"),
+    }
+    let owner = bank.lock(&rt, &mut pass);
+    assert!(rt; owner.ran() == 2);
+    let _released = bank.unlock(&mut pass, owner);
+    let third = bank.lock_combine(&rt, &mut pass, Order::Give(u64::MAX));
+    assert!(rt; third.at == 2 && third.result == Err(Refusal::Over) && pass.quota() == 1);
+    let (kept, _retired) = bank.close(pass);
+    match kept {
+        Some(kept) => assert!(rt; kept.ran == 3 && kept.value.balance == 10),
+        None => panic!(rt; "the value is lost"),
+    }
+    Ok(())
+}

@@ -1,0 +1,15 @@
+mod Locking
+mod Arith
+mod Upgrades
+mod Cargoes
+mod Racing
+mod Trailing
+mod Keeps
+mod Slots
+mod Steps
+mod Events
+mod Allowing
+mod Dividing
+mod Opening
+mod Carrying
+mod Ending

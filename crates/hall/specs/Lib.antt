@@ -1,0 +1,14 @@
+pub mod Cargo
+pub mod Closing
+pub mod Locks
+pub mod Moves
+pub mod NumberLaws
+pub mod Numbers
+pub mod Passes
+pub mod Plays
+pub mod Reasons
+pub mod Rule
+pub mod ShownLaws
+pub mod Shows
+pub mod Trails
+pub mod Views

@@ -1,0 +1,64 @@
+//! Steps on the cargo's words.
+ghost use Rattle.std.specs.Prelude.{◌≡◌, ◌+◌, ◌<◌, ◌≤◌, ◌%◌, ◌^◌, true, false};
+ghost use Rattle.hall.specs.Cargo.{Notes};
+ghost use Rattle.hall.specs.Rule.{cargo_seat};
+ghost use Rattle.hall.specs.Views.{after_note};
+ghost use Rattle.hall.specs.declared.view.Kind.TheVariants.{LoadCargo, StoreCargo, AddCargo};
+
+use crate::cargo::Cargo;
+use crate::hall::{Hall, Pass};
+use crate::plays::{AddNoted, LoadNoted, Note, StoreNoted};
+
+impl<C: Cargo> Hall<C> {
+    ghost use Rattle.hall.specs.Passes.{view, IsPassOf, shape_of, cargo_of};
+
+    fn cargo_place(&self, place: u64) -> usize
+        requires { place < (shape_of self.now).words }
+        ensures value { result ≡ (shape_of self.now).slots + (shape_of self.now).locks + place }
+        ensures inside { result < self.now.table.shared.table_id.words }
+    {
+        (self.slots + self.locks + place) as usize
+    }
+
+    /// Loads a cargo word.
+    pub fn load_cargo<N: Note<C>>(&self, pass: &mut Pass<C>, place: u64) -> u64
+        requires pass { IsPassOf self.now pass.old }
+        requires place { place < (shape_of self.now).words }
+        requires note { Notes (C.holds (cargo_of self.now)) pass.old.seat.id (cargo_seat (view pass.old)) 0 place (λ x. x) N.becomes }
+        ensures pass { IsPassOf self.now pass.new × (pass.new.seat.id ≡ pass.old.seat.id) }
+        ensures step { (part : C.Part) × N.becomes result (view pass.old).part part × (view pass.new ≡ after_note (view pass.old) LoadCargo ((shape_of self.now).slots + (shape_of self.now).locks + place) result false 0 part) }
+    {
+        let word = self.cargo_place(place);
+        let table = &self.table.shared;
+        table.load::<LoadNoted<N, C>>(&mut pass.seat, word)
+    }
+
+    /// Stores a cargo word.
+    pub fn store_cargo<N: Note<C>>(&self, pass: &mut Pass<C>, place: u64, value: u64)
+        requires pass { IsPassOf self.now pass.old }
+        requires place { place < (shape_of self.now).words }
+        requires note { Notes (C.holds (cargo_of self.now)) pass.old.seat.id (cargo_seat (view pass.old)) 0 place (λ _. value) N.becomes }
+        ensures pass { IsPassOf self.now pass.new × (pass.new.seat.id ≡ pass.old.seat.id) }
+        ensures step { (found : _) × (part : C.Part) × N.becomes found (view pass.old).part part × (view pass.new ≡ after_note (view pass.old) StoreCargo ((shape_of self.now).slots + (shape_of self.now).locks + place) value true 0 part) }
+    {
+        let word = self.cargo_place(place);
+        let table = &self.table.shared;
+        table.store::<StoreNoted<N, C>>(&mut pass.seat, word, value);
+    }
+
+    /// Adds to a cargo word by one fetch, and answers the word that it found. The quota falls by as much.
+    pub fn add_cargo<N: Note<C>>(&self, pass: &mut Pass<C>, place: u64, n: u64) -> u64
+        requires pass { IsPassOf self.now pass.old }
+        requires place { place < (shape_of self.now).words }
+        requires quota { n ≤ (view pass.old).quota }
+        requires note { Notes (C.holds (cargo_of self.now)) pass.old.seat.id (cargo_seat (view pass.old)) n place (λ x. (x + n) % 2 ^ 64) N.becomes }
+        ensures pass { IsPassOf self.now pass.new × (pass.new.seat.id ≡ pass.old.seat.id) }
+        ensures step { (part : C.Part) × N.becomes result (view pass.old).part part × (view pass.new ≡ after_note (view pass.old) AddCargo ((shape_of self.now).slots + (shape_of self.now).locks + place) result true n part) }
+    {
+        let word = self.cargo_place(place);
+        let table = &self.table.shared;
+        let found = table.fetch_add::<AddNoted<N, C>>(&mut pass.seat, word, n);
+        pass.quota -= n;
+        found
+    }
+}

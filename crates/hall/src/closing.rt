@@ -1,0 +1,73 @@
+//! How a hall is closed.
+ghost use Rattle.std.specs.Prelude.{◌≡◌, ◌≢◌, ◌+◌, ◌<◌, ◌≤◌, ℕ, List, length, slice_index};
+ghost use Rattle.core.specs.Mem.Slots.{slots_items, slots_len, IsFull};
+ghost use mathlib.Core.Option.{some};
+ghost use lib.ListN.{get_elem?};
+ghost use Rattle.hall.specs.Cargo.{CargoSeat};
+ghost use Rattle.hall.specs.Numbers.{width};
+ghost use Rattle.hall.specs.Rule.{cargo_seat};
+ghost use Rattle.hall.specs.declared.view.Standing.TheVariants.{Away};
+ghost use Rattle.hall.specs.Views.{standing};
+
+use crate::cargo::Cargo;
+use crate::hall::{Hall, Pass};
+use atomic_table::Closed as ClosedTable;
+use std::alloc::Global;
+
+/// The words of a hall that was closed.
+pub struct Closed {
+    pub(crate) table: ClosedTable<(), Global>,
+    pub(crate) base: u64,
+    ghost full: { IsFull table.words × (slots_len table.slots ≡ 0) },
+    ghost sized: { (base ≤ slots_len table.words) × (slots_len table.words < 4294967296) },
+}
+
+impl Drop for Closed {
+    fn drop(self) {
+        let Closed { table, base: _ } = self;
+        table.free();
+    }
+}
+
+impl Closed {
+    ghost use Rattle.hall.specs.Closing.{closed_words};
+
+    /// A cargo word, as it was left.
+    pub fn word(&self, place: u64) -> u64
+        requires { place < length (closed_words self.now) }
+        ensures { result ≡ slice_index (closed_words self.now) place }
+    {
+        self.table.word((self.base + place) as usize)
+    }
+}
+
+impl<C: Cargo> Hall<C> {
+    ghost use Rattle.hall.specs.Passes.{view, IsPassOf, cargo_of, shape_of};
+    ghost use Rattle.hall.specs.Closing.{closed_words};
+
+    /// Closes the hall with a pass that is away from every lock and at rest. The cargo's rule holds of the words that are left.
+    pub fn close(self, pass: Pass<C>) -> Closed
+        requires pass { IsPassOf self pass }
+        requires away { (lock : ℕ) → standing (view pass) lock ≡ Away }
+        requires rested { C.rested (view pass).part }
+        ensures { (seats : List (CargoSeat C.Part)) × C.holds (cargo_of self) (closed_words result) seats × (get_elem? seats pass.seat.id ≡ some (cargo_seat (view pass))) × (width (view pass) ≡ (shape_of self).seats → (j : ℕ) (q : CargoSeat C.Part) → get_elem? seats j ≡ some q → j ≢ pass.seat.id → q.part ≡ C.spent) }
+    {
+        let Hall {
+            table,
+            slots,
+            locks,
+            policy: _,
+            cargo: _,
+        } = self;
+        let Pass {
+            seat,
+            number: _,
+            spare: _,
+            quota: _,
+        } = pass;
+        Closed {
+            table: table.close_with(seat),
+            base: slots + locks,
+        }
+    }
+}

@@ -1,0 +1,35 @@
+//! What an acquisition gives, and why one is refused.
+use state_word::Word;
+
+/// A shared hold of a lock. The right to the lock is the pass's standing, which this value names. It must be given back
+/// by an unlock: code that drops it doesn't compile.
+#[derive(Debug)]
+pub struct SharedGuard {
+    pub lock: u64,
+}
+
+/// An exclusive hold of a lock. It must be given back by an unlock: code that drops it doesn't compile.
+#[derive(Debug)]
+pub struct ExclusiveGuard {
+    pub lock: u64,
+}
+
+/// An announced writer, which waits to take the lock. It must be finished or retracted: code that drops it doesn't
+/// compile.
+#[derive(Debug)]
+pub struct Announced {
+    pub lock: u64,
+    /// Each slot was looked at, so that the writer can try to finish.
+    pub swept: bool,
+    /// It still holds upgrade.
+    pub from_upgrade: bool,
+}
+
+/// Why an acquisition was refused. The pass is away from the lock.
+#[derive(Clone, Copy, Debug, PartialEq, Eq)]
+pub enum TryFault {
+    /// This word was read in this call, and it conflicts with what was asked.
+    Busy { word: Word },
+    /// Both words were read in this call and differ, and the pass itself made no change by or between the two reads.
+    Raced { expected: Word, found: Word },
+}

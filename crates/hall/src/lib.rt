@@ -1,0 +1,44 @@
+//! Many shared locks over one table of atomic words: the state of reader and writer locks after Folly's `SharedMutex`,
+//! changed by single atomic steps, with a cargo of words behind the locks that only their holders touch.
+//!
+//! It stands on `atomic_table`, whose rule it brings: `specs/Rule.antt` says in four parts what is so between any two
+//! steps, of numbers, state words and slots, trails and the cargo. `state_word` has the words and `lock_model` the
+//! abstract lock.
+//!
+//! Each event is one step on one word. Its contract says which word it found and which it left, what became of the
+//! pass's view, and which allowed move of the abstract lock it was, at a moment at which the rule held. What the rule
+//! says of a lock in plain words stands in `specs/Shows.antt`, with the law that it follows.
+//!
+//! | Event | From | Step on the state word | To |
+//! |---|---|---|---|
+//! | `load` | any | reads it | the same |
+//! | `enter` | away | exchange: count + 1, third reader sets MAY_DEFER | inline |
+//! | `lower` | inline, owing | count - 1 | away |
+//! | `announce` | away | exchange: sets BEGUN, clears MAY_DEFER | announcing |
+//! | `hold` | announcing, swept | exchange: BEGUN alone becomes HELD | exclusive |
+//! | `retract` | announcing | clears BEGUN, sets MAY_DEFER | away |
+//! | `release` | exclusive | clears HELD | away |
+#![tactic(auto)]
+
+pub mod cargo;
+mod carried;
+pub mod closing;
+pub mod conflicts;
+pub mod guards;
+pub mod hall;
+pub mod making;
+pub mod no_cargo;
+mod passes;
+pub mod plays;
+pub mod rule;
+pub mod view;
+
+pub use cargo::{Cargo, CargoRule};
+pub use closing::Closed;
+pub use guards::{Announced, ExclusiveGuard, SharedGuard, TryFault};
+pub use hall::{Hall, Pass};
+pub use lock_model::{Mode, Policy};
+pub use making::NoMemory;
+pub use no_cargo::NoCargo;
+pub use plays::Note;
+pub use state_word::Word;

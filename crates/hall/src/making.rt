@@ -1,0 +1,74 @@
+//! How a hall is made.
+ghost use Rattle.std.specs.Prelude.{◌≡◌, ◌+◌, ◌<◌, ◌≤◌, ◌^◌, IfOk};
+ghost use Rattle.hall.specs.Rule.{first_view};
+
+use crate::cargo::Cargo;
+use crate::hall::{Hall, Pass};
+use crate::view::{Plan, Shape};
+use atomic_table::Table;
+use lock_model::Policy;
+use std::alloc::Global;
+
+#[derive(Debug, Drop)]
+pub struct NoMemory;
+
+impl<C: Cargo> Hall<C> {
+    ghost use Rattle.hall.specs.Passes.{view, IsPassOf, shape_of, cargo_of};
+
+    pub fn make(
+        alloc: Global,
+        locks: u64,
+        slots: u64,
+        policy: Policy,
+        seats: u64,
+        quota: u64,
+        cargo: C,
+    ) -> Result<(Hall<C>, Pass<C>), NoMemory>
+        requires locks { (0 < locks) × (locks ≤ 2 ^ 20) }
+        requires slots { (0 < slots) × (slots ≤ 256) }
+        requires seats { (0 < seats) × (seats ≤ 2 ^ 20) }
+        requires words { slots + locks + C.word_count cargo < 2 ^ 32 }
+        requires admits { C.admits cargo quota }
+        ensures { IfOk result (λ t. IsPassOf t.0 t.1 × (cargo_of t.0 ≡ cargo) × (shape_of t.0 ≡ record { locks = locks; slots = slots; seats = seats; policy = policy; words = C.word_count cargo }) × (view t.1 ≡ first_view C.CargoRule record { shape = record { locks = locks; slots = slots; seats = seats; policy = policy; words = C.word_count cargo }; quota = quota; cargo = cargo })) }
+    {
+        let extra = cargo.words();
+        let count = (slots + locks + extra) as usize;
+        let Ok(words) = Vec::from_elem(alloc, 0u64, count) else {
+            return Err(NoMemory);
+        };
+        let shape = Shape {
+            locks,
+            slots,
+            seats,
+            policy,
+            words: extra,
+        };
+        let plan = Plan {
+            shape,
+            quota,
+            cargo,
+        };
+        let Ok((table, seat)) = Table::of_words(alloc, words.as_slice(), &plan) else {
+            return Err(NoMemory);
+        };
+        let Plan {
+            shape: _,
+            quota: _,
+            cargo,
+        } = plan;
+        let hall = Hall {
+            table,
+            slots,
+            locks,
+            policy,
+            cargo,
+        };
+        let pass = Pass {
+            seat,
+            number: 0,
+            spare: seats - 1,
+            quota,
+        };
+        Ok((hall, pass))
+    }
+}

@@ -1,0 +1,69 @@
+//! How passes are divided and joined.
+ghost use Rattle.std.specs.Prelude.{◌≡◌, ◌+◌, ◌-◌, ◌<◌, ◌≤◌, ℕ};
+ghost use Rattle.hall.specs.declared.view.Standing.TheVariants.{Away};
+ghost use Rattle.hall.specs.Views.{standing, split_left, split_right, joined_view};
+
+use crate::cargo::Cargo;
+use crate::hall::{Hall, Pass};
+use crate::plays::{Cut, Dividing, Joining, Weigh};
+use std::marker::Brand;
+
+impl<C: Cargo> Hall<C> {
+    ghost use Rattle.hall.specs.Passes.{view, IsPassOf};
+
+    fn split_by<K: Cut>(&self, pass: &mut Pass<C>, seats: u64, quota: u64) -> Pass<C>
+        requires pass { IsPassOf self.now pass.old }
+        requires cut { (seats ≡ K.seats) × (quota ≡ K.quota) }
+        requires seats { (0 < seats) × (seats < (view pass.old).span) }
+        requires quota { quota ≤ (view pass.old).quota }
+        ensures pass { IsPassOf self.now pass.new × (view pass.new ≡ split_left seats quota (C.kept (view pass.old).part) (view pass.old)) }
+        ensures new { IsPassOf self.now result × (view result ≡ split_right seats quota (C.split_off (view pass.old).part) (view pass.old)) }
+    {
+        let seat = self
+            .table
+            .shared
+            .split_seat::<Dividing<K, C>>(&mut pass.seat);
+        let number = pass.number + pass.spare + 1 - seats;
+        pass.spare -= seats;
+        pass.quota -= quota;
+        Pass {
+            seat,
+            number,
+            spare: seats - 1,
+            quota,
+        }
+    }
+
+    /// Gives some of the spare numbers and of the quota to a new pass.
+    pub fn split(&self, pass: &mut Pass<C>, seats: u64, quota: u64) -> Pass<C>
+        requires pass { IsPassOf self.now pass.old }
+        requires seats { (0 < seats) × (seats < (view pass.old).span) }
+        requires quota { quota ≤ (view pass.old).quota }
+        ensures pass { IsPassOf self.now pass.new × (view pass.new ≡ split_left seats quota (C.kept (view pass.old).part) (view pass.old)) }
+        ensures new { IsPassOf self.now result × (view result ≡ split_right seats quota (C.split_off (view pass.old).part) (view pass.old)) }
+    {
+        self.split_by::<Brand>(pass, seats, quota)
+    }
+
+    /// Takes in another pass, which is away from every lock and at rest.
+    pub fn join(&self, pass: &mut Pass<C>, other: Pass<C>)
+        requires pass { IsPassOf self.now pass.old }
+        requires other { IsPassOf self.now other }
+        requires away { (lock : ℕ) → standing (view other) lock ≡ Away }
+        requires rested { C.rested (view other).part }
+        ensures pass { IsPassOf self.now pass.new × (view pass.new ≡ joined_view (C.joined (view pass.old).part (view other).part) (view pass.old) (view other)) }
+    {
+        let Pass {
+            seat,
+            number: _,
+            spare: _,
+            quota,
+        } = other;
+        self.table
+            .shared
+            .join_seat::<Joining<C>>(&mut pass.seat, seat);
+        // The two quotas were split_right out of one, so their sum is no greater.
+        self.table.shared.load::<Weigh>(&mut pass.seat, 0);
+        pass.quota = pass.quota.wrapping_add(quota);
+    }
+}

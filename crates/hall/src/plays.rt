@@ -1,0 +1,165 @@
+//! What each step tells. These types are for the proofs alone: no value of them is made.
+use crate::cargo::CargoRule;
+use crate::view::View;
+use atomic_table::{Join, Play, Split};
+use std::marker::{Brand, PhantomData};
+
+pub struct LoadPlay<C> {
+    marker: PhantomData<C>,
+}
+
+impl<C: CargoRule> Play<(), View<C::Part>> for LoadPlay<C> {
+    ghost use Rattle.hall.specs.Plays.{At, Loads};
+
+    ghost then = { At (Loads C.CargoRule) };
+}
+
+pub struct EnterPlay<C> {
+    marker: PhantomData<C>,
+}
+
+impl<C: CargoRule> Play<(), View<C::Part>> for EnterPlay<C> {
+    ghost use Rattle.hall.specs.Plays.{TriedAt, Enters, EnterMisses};
+
+    ghost then = { TriedAt (Enters C.CargoRule) (EnterMisses C.CargoRule) };
+}
+
+pub struct LowerPlay<C> {
+    marker: PhantomData<C>,
+}
+
+impl<C: CargoRule> Play<(), View<C::Part>> for LowerPlay<C> {
+    ghost use Rattle.hall.specs.Plays.{At, GivesBack};
+
+    ghost then = { At (GivesBack C.CargoRule) };
+}
+
+pub struct AnnouncePlay<C> {
+    marker: PhantomData<C>,
+}
+
+impl<C: CargoRule> Play<(), View<C::Part>> for AnnouncePlay<C> {
+    ghost use Rattle.hall.specs.Plays.{TriedAt, Announces, AnnounceMisses};
+
+    ghost then = { TriedAt (Announces C.CargoRule) (AnnounceMisses C.CargoRule) };
+}
+
+pub struct HoldPlay<C> {
+    marker: PhantomData<C>,
+}
+
+impl<C: CargoRule> Play<(), View<C::Part>> for HoldPlay<C> {
+    ghost use Rattle.hall.specs.Plays.{TriedAt, Holding, HoldMisses};
+
+    ghost then = { TriedAt (Holding C.CargoRule) (HoldMisses C.CargoRule) };
+}
+
+pub struct RetractPlay<C> {
+    marker: PhantomData<C>,
+}
+
+impl<C: CargoRule> Play<(), View<C::Part>> for RetractPlay<C> {
+    ghost use Rattle.hall.specs.Plays.{At, Retracts};
+
+    ghost then = { At (Retracts C.CargoRule) };
+}
+
+pub struct ReleasePlay<C> {
+    marker: PhantomData<C>,
+}
+
+impl<C: CargoRule> Play<(), View<C::Part>> for ReleasePlay<C> {
+    ghost use Rattle.hall.specs.Plays.{At, Releases};
+
+    ghost then = { At (Releases C.CargoRule) };
+}
+
+/// How many numbers and how much of the quota a split gives. The call picks them.
+pub trait Cut {
+    ghost use Rattle.std.specs.Prelude.{ℕ};
+
+    ghost seats: { ℕ };
+
+    ghost quota: { ℕ };
+}
+
+impl Cut for Brand {
+    ghost seats = { 0 };
+
+    ghost quota = { 0 };
+}
+
+pub struct Dividing<K, C> {
+    marker: PhantomData<(K, C)>,
+}
+
+impl<K: Cut, C: CargoRule> Split<View<C::Part>> for Dividing<K, C> {
+    ghost use Rattle.hall.specs.Views.{split_left, split_right};
+
+    ghost left = { λ v. split_left K.seats K.quota (C.kept v.part) v };
+
+    ghost right = { λ v. split_right K.seats K.quota (C.split_off v.part) v };
+}
+
+pub struct Joining<C> {
+    marker: PhantomData<C>,
+}
+
+impl<C: CargoRule> Join<View<C::Part>> for Joining<C> {
+    ghost use Rattle.hall.specs.Views.{joined_view, spent_view};
+
+    ghost both = { λ v w. joined_view (C.joined v.part w.part) v w };
+
+    ghost spent = { spent_view C.spent };
+}
+
+/// A look that isn't listed: it tells that the quota of a pass is one of a `u64`.
+pub struct Weigh;
+
+impl<P> Play<(), View<P>> for Weigh {
+    ghost use Rattle.std.specs.Prelude.{◌≡◌, ◌<◌, ◌^◌};
+
+    ghost then = { λ st m r n. (n ≡ m) × (m.0.quota < 2 ^ 64) };
+}
+
+/// What a step on a cargo word leaves to its pass: of the word found, the part before and the part after.
+pub trait Note<C: CargoRule> {
+    ghost use Rattle.std.specs.Prelude.{ℕ};
+
+    ghost becomes: { ℕ → C.Part → C.Part → Type 0 };
+}
+
+pub struct LoadNoted<N, C> {
+    marker: PhantomData<(N, C)>,
+}
+
+impl<C: CargoRule, N: Note<C>> Play<(), View<C::Part>> for LoadNoted<N, C> {
+    ghost use Rattle.std.specs.Prelude.{false};
+    ghost use Rattle.hall.specs.Plays.{MakesNote};
+    ghost use Rattle.hall.specs.declared.view.Kind.TheVariants.{LoadCargo};
+
+    ghost then = { λ st m r n. MakesNote N.becomes LoadCargo false 0 st.word m r n };
+}
+
+pub struct AddNoted<N, C> {
+    marker: PhantomData<(N, C)>,
+}
+
+impl<C: CargoRule, N: Note<C>> Play<(), View<C::Part>> for AddNoted<N, C> {
+    ghost use Rattle.std.specs.Prelude.{true};
+    ghost use Rattle.hall.specs.Plays.{MakesNote};
+    ghost use Rattle.hall.specs.declared.view.Kind.TheVariants.{AddCargo};
+
+    ghost then = { λ st m r n. MakesNote N.becomes AddCargo true st.first st.word m r n };
+}
+
+pub struct StoreNoted<N, C> {
+    marker: PhantomData<(N, C)>,
+}
+
+impl<C: CargoRule, N: Note<C>> Play<(), View<C::Part>> for StoreNoted<N, C> {
+    ghost use Rattle.hall.specs.Plays.{StoresNote};
+    ghost use Rattle.hall.specs.declared.view.Kind.TheVariants.{StoreCargo};
+
+    ghost then = { λ st m r n. StoresNote N.becomes StoreCargo st.word m r n };
+}

@@ -1,0 +1,85 @@
+//! What no clause says: that runs succeed with ample memory, and worked examples of the statuses.
+use crate::serve_main;
+use ql_base::{ListClocks, MemSink, MemSource, OpenGate};
+use std::alloc::{AllocError, Global};
+
+const ROOM: usize = 4096;
+
+// The status of a run over this script, and what it wrote.
+fn run(
+    rt: &HostRuntime,
+    words: &[String],
+    script: &[u8],
+    failing_reads: &[u64],
+    failing_writes: &[u64],
+) -> Result<(u8, Vec<u8>), AllocError> {
+    let alloc: Global = rt.alloc();
+    let mut source = MemSource::new(script.to_vec(alloc)?, failing_reads.to_vec(alloc)?);
+    let Ok(mut sink) = MemSink::with_room(alloc, ROOM, failing_writes.to_vec(alloc)?) else {
+        return Err(AllocError);
+    };
+    let clocks = ListClocks::new(&[0]);
+    let status = serve_main(rt, alloc, words, &mut source, &mut sink, &clocks, &OpenGate);
+    Ok((status, sink.written().to_vec(alloc)?))
+}
+
+#[test]
+fn a_script_without_queries_is_logged(rt: HostRuntime) -> Result<(), AllocError> {
+    let words = vec![in rt.alloc(); String::from_str(rt.alloc(), "run")?]?;
+    let (status, written) = run(&rt, &words, b"cells 1\n", &[], &[])?;
+    assert_eq!(rt; status, 0);
+    let log =
+        b"querylog 1\ncells 1 rows 1024 callers 0\nqueries 0\nwrites 0\nreads 0\nrefused 0\njobs 0\nend\n";
+    assert_eq!(rt; written.as_slice(), log.as_slice());
+    Ok(())
+}
+
+#[test]
+fn a_put_and_two_gets_are_one_history(rt: HostRuntime) -> Result<(), AllocError> {
+    let words = vec![in rt.alloc(); String::from_str(rt.alloc(), "run")?]?;
+    let script = b"cells 1\ncaller\nput 0 7 5\nget 0 7\nget 0 8\n";
+    let (status, written) = run(&rt, &words, script, &[], &[])?;
+    assert_eq!(rt; status, 0);
+    let log =
+        b"querylog 1\ncells 1 rows 1024 callers 1\nmap 1 0 0 put 0 7 5 = new\nmap 2 0 1 get 0 7 = some 5\nmap 2 0 2 get 0 8 = none\nqueries 3\nwrites 1\nreads 2\nrefused 0\njobs 0\nend\n";
+    assert_eq!(rt; written.as_slice(), log.as_slice());
+    Ok(())
+}
+
+#[test]
+fn a_log_is_cut_where_a_write_fails(rt: HostRuntime) -> Result<(), AllocError> {
+    let words = vec![in rt.alloc(); String::from_str(rt.alloc(), "run")?]?;
+    let (status, written) = run(&rt, &words, b"cells 1\n", &[], &[2])?;
+    assert_eq!(rt; status, 5);
+    let front = b"querylog 1\ncells 1 rows 1024 callers 0\n";
+    assert_eq!(rt; written.as_slice(), front.as_slice());
+    Ok(())
+}
+
+#[test]
+fn nothing_is_written_where_a_read_fails(rt: HostRuntime) -> Result<(), AllocError> {
+    let words = vec![in rt.alloc(); String::from_str(rt.alloc(), "run")?]?;
+    let (status, written) = run(&rt, &words, b"cells 1\n", &[0], &[])?;
+    assert_eq!(rt; status, 4);
+    assert!(rt; written.is_empty());
+    Ok(())
+}
+
+#[test]
+fn refused_input_and_wrong_words_write_nothing(rt: HostRuntime) -> Result<(), AllocError> {
+    let words = vec![in rt.alloc(); String::from_str(rt.alloc(), "run")?]?;
+    for script in [
+        b"".as_slice(),
+        b"cells 1\nget 0 1\n",
+        b"cells 1\ncaller\naudit\n",
+    ] {
+        let (status, written) = run(&rt, &words, script, &[], &[])?;
+        assert_eq!(rt; status, 3);
+        assert!(rt; written.is_empty());
+    }
+    let none: Vec<String> = Vec::new(rt.alloc());
+    let (status, written) = run(&rt, &none, b"cells 1\n", &[], &[])?;
+    assert_eq!(rt; status, 2);
+    assert!(rt; written.is_empty());
+    Ok(())
+}

@@ -1,0 +1,11 @@
+pub mod Rules
+pub mod Tries
+pub mod Enters
+pub mod Polls
+pub mod Frees
+pub mod Grants
+pub mod Passes
+pub mod Numbers
+pub mod Closes
+pub mod Opens
+pub mod Hands

@@ -1,0 +1,4 @@
+pub mod Goods
+pub mod Chains
+pub mod Steps
+pub mod Calls

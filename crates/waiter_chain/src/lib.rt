@@ -1,0 +1,21 @@
+//! A lock whose waiters stand in a chain, over one table of atomic words and slots. A value lies in slot 0, and only
+//! the owner of the lock reads or writes it. The chain is that of Folly's `DistributedMutex`: a waiter swaps its own
+//! number into one central word and then waits on a word of its own.
+//!
+//! The crate stands on `atomic_table`, whose rule holds between any two steps of any passes. `specs/Chains.antt` has the
+//! rule of this table: there is at most one owner, the central word is 0 exactly where there is none, and two lists
+//! hold exactly the waiting nodes. `specs/Goods.antt` has the laws of what a chain carries.
+//!
+//! The contracts promise of each call exactly the steps that it makes, in the pass's own list of steps, and what it
+//! answers for which word. Nothing is promised of a wait's end.
+#![tactic(auto)]
+
+pub mod chain;
+pub mod freight;
+pub mod make;
+mod plays;
+pub mod runs;
+#[cfg(test)]
+mod tests;
+pub mod turn;
+pub mod view;

@@ -1,0 +1,81 @@
+//! What a pass knows of its chain, as plain data. No value of these types but an `Entry`'s parts is ever made: a pass
+//! carries its view for the proofs alone.
+use std::collections::LinkedList;
+use std::snapshot::Snapshot;
+
+/// What a chain was made with. It is kept for the proofs alone.
+#[derive(Drop)]
+pub struct Opening<P> {
+    pub nodes: u64,
+    pub quota: u64,
+    pub first: Snapshot<P>,
+}
+
+/// The kinds of step on a word of the chain that a pass lists.
+pub enum Event {
+    /// A store into its own status.
+    SetStatus,
+    /// A swap of its own number + 2 into the central word.
+    SwapIn,
+    /// An exchange of the central word from 0 to 1.
+    TryIn,
+    /// A load of its own status.
+    LoadStatus,
+    /// An exchange of the central word from the owner's mark to 0.
+    Free,
+    /// A swap of 1 into the central word, by the owner.
+    TakeChain,
+    /// A store into the next node's status, which makes that node the owner.
+    Grant,
+}
+
+/// One step of a pass, as its list of steps keeps it.
+pub struct Entry {
+    /// The pass's number at this step.
+    pub number: u64,
+    pub event: Event,
+    /// The word's place in the table.
+    pub place: u64,
+    /// At a store the word that was stored, and else the word that was found.
+    pub word: u64,
+}
+
+/// What an owner knows.
+pub struct Ownership<P> {
+    /// The next node is `first - 2`, unless `first` is `end`.
+    pub first: u64,
+    pub end: u64,
+    /// What the central word is as long as nobody came since the owner last looked.
+    pub mark: u64,
+    /// Since the mark was set, the central word was found to be another.
+    pub others_came: bool,
+    /// What the owner took out of slot 0.
+    pub value: P,
+}
+
+/// Where a pass stands.
+pub enum Stage<P> {
+    Idle,
+    /// Its status is 1, and it has not swapped itself in yet.
+    Ready,
+    /// It waits, and this is the word that its swap found.
+    Behind(u64),
+    Owns(Ownership<P>),
+}
+
+pub struct View<P> {
+    pub number: u64,
+    /// How many numbers right after its own it can still give away.
+    pub spare: u64,
+    /// The numbers that it took over by joins, each with how many come after it.
+    pub past: LinkedList<(u64, u64)>,
+    /// Another pass took it in.
+    pub gone: bool,
+    /// How many jobs it may still run.
+    pub quota: u64,
+    pub stage: Stage<P>,
+    /// The answers of its own jobs, the earliest first.
+    pub own: LinkedList<P>,
+    /// Its steps, the earliest first.
+    pub steps: LinkedList<Entry>,
+}
