@@ -8,3 +8,6 @@
 mod plain;
 
 pub use plain::PlainMaps;
+
+#[cfg(test)]
+mod tests;

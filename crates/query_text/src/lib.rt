@@ -22,3 +22,6 @@ pub use outcome::{Outcome, Totals};
 pub use parse::{ParseFault, parse_script};
 pub use query_rules::{Cause, LedgerTold, LedgerTrouble, Query, Reply, Said, Section, Spot, Verb};
 pub use script::{Callers, Script};
+
+#[cfg(test)]
+mod tests;
