@@ -18,6 +18,8 @@ use Rattle.query_rules.specs.declared.query.Section.TheVariants as section
 use Rattle.query_rules.specs.declared.query.Total.{Total}
 use Rattle.query_rules.specs.declared.query.Total.TheVariants as total
 use Rattle.query_rules.specs.declared.query.Spot.{Spot}
+use Rattle.query_rules.specs.declared.query.Cause.{Cause}
+use Rattle.query_rules.specs.declared.query.Cause.TheVariants as cause
 use Rattle.query_rules.specs.Grammar.{Asked}
 use Rattle.query_rules.specs.Verbs.{query_words}
 use Rattle.query_rules.specs.Words.{line_of}
@@ -232,3 +234,23 @@ log_text s rows told order =
     ++ (refused_text s.callers told
     ++ (spots_text s.callers told (drop (placed_count told) order)
     ++ (totals_text (totals_of told) ++ end_line))))
+
+abbrev pub cause_word : Cause → List ℕ
+cause_word cause.BadByte = codes "BadByte"
+cause_word cause.Spacing = codes "Spacing"
+cause_word cause.MissingCells = codes "MissingCells"
+cause_word cause.Unknown = codes "Unknown"
+cause_word cause.WordCount = codes "WordCount"
+cause_word cause.NotYet = codes "NotYet"
+cause_word cause.NoCaller = codes "NoCaller"
+cause_word cause.BadNumber = codes "BadNumber"
+cause_word cause.CellRange = codes "CellRange"
+cause_word cause.TooManyQueries = codes "TooManyQueries"
+
+-- what is written of a text whose first bad line is this one
+unfoldable pub refused_at : ℕ → Cause → List ℕ
+refused_at line cause = line_of (codes "refused" ∷ codes "line" ∷ decimal line ∷ cause_word cause ∷ [])
+
+-- what is written of an input that is too long
+unfoldable pub refused_length : List ℕ
+refused_length = line_of (codes "refused" ∷ codes "length" ∷ [])

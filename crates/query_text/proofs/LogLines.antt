@@ -6,7 +6,8 @@ use Rattle.query_rules.specs.declared.query.Reply.{Reply}
 use Rattle.query_rules.specs.declared.query.Reply.TheVariants.{Placed, Busy, Late, Job}
 use Rattle.query_rules.specs.Verbs.{query_words}
 use Rattle.query_rules.specs.Words.{line_of}
-use Rattle.query_rules.specs.Log.{reply_words, place_words, answer_line}
+use Rattle.query_rules.specs.declared.query.Cause.{Cause}
+use Rattle.query_rules.specs.Log.{reply_words, place_words, answer_line, cause_word, refused_at, refused_length}
 use Rattle.query_text.specs.Spaced.{spaced, placed_bytes}
 
 assoc_six : (x a b q e r : List ℕ) → ((((x ++ a) ++ b) ++ q) ++ e) ++ r ≡ x ++ (a ++ (b ++ (q ++ (e ++ r))))
@@ -49,3 +50,19 @@ answer_made caller index q (Late now) l0 l1 l2 l3 l4 l5 h0 h1 h2 h3 h4 h5 =
     made (codes "ref") [] (decimal caller) (decimal index) (codes "=") (query_words q) (reply_words (Late now)) l0 l1 l2 l3 l4 l5 (h0 ∙ sym (append-nil (codes "ref"))) h1 h2 h3 h4 h5
 answer_made caller index q (Job at result) l0 l1 l2 l3 l4 l5 h0 h1 h2 h3 h4 h5 =
     made (codes "job") (decimal at ∷ []) (decimal caller) (decimal index) (codes "=") (query_words q) (reply_words (Job at result)) l0 l1 l2 l3 l4 l5 (one_word (codes "job") (decimal at) l0 h0) h1 h2 h3 h4 h5
+
+assoc_four : (r l d w : List ℕ) → ((r ++ l) ++ d) ++ w ≡ r ++ (l ++ (d ++ (w ++ [])))
+assoc_four r l d w = simp (append_assoc, append-nil)
+
+-- the line of a refusal
+pub refusal_made : (line : ℕ) (cause : Cause) (word l0 l1 l2 l3 : List ℕ) → l0 ≡ codes "refused" → l1 ≡ l0 ++ 32 ∷ codes "line" → l2 ≡ l1 ++ 32 ∷ decimal line → l3 ≡ l2 ++ 32 ∷ word → word ≡ cause_word cause
+    → l3 ++ 10 ∷ [] ≡ refused_at line cause
+unfolding refused_at
+refusal_made line cause word l0 l1 l2 l3 h0 h1 h2 h3 hw =
+    let whole : l3 ≡ ((codes "refused" ++ 32 ∷ codes "line") ++ 32 ∷ decimal line) ++ 32 ∷ cause_word cause =
+    h3 ∙ ap (λ w. l2 ++ 32 ∷ w) hw ∙ ap (λ l. l ++ 32 ∷ cause_word cause) (h2 ∙ ap (λ l. l ++ 32 ∷ decimal line) (h1 ∙ ap (λ l. l ++ 32 ∷ codes "line") h0)) in
+    ap (λ l. l ++ 10 ∷ []) (whole ∙ assoc_four (codes "refused") (32 ∷ codes "line") (32 ∷ decimal line) (32 ∷ cause_word cause))
+
+pub length_made : (l0 l1 : List ℕ) → l0 ≡ codes "refused" → l1 ≡ l0 ++ 32 ∷ codes "length" → l1 ++ 10 ∷ [] ≡ refused_length
+unfolding refused_length
+length_made l0 l1 h0 h1 = ap (λ l. l ++ 10 ∷ []) (h1 ∙ ap (λ l. l ++ 32 ∷ codes "length") h0)

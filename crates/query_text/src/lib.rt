@@ -13,6 +13,7 @@ mod log_line;
 mod number;
 mod outcome;
 mod parse;
+mod refusal;
 mod script;
 mod script_line;
 mod words;
@@ -21,6 +22,7 @@ pub use log::write_log;
 pub use outcome::{Outcome, Totals};
 pub use parse::{ParseFault, parse_script};
 pub use query_rules::{Cause, LedgerTold, LedgerTrouble, Query, Reply, Said, Section, Spot, Verb};
+pub use refusal::{Refusal, write_refusal};
 pub use script::{Callers, Script};
 
 #[cfg(test)]

@@ -1,2 +1,3 @@
 mod HistoryLaws
 mod Orders
+mod Refusals

@@ -1,5 +1,5 @@
 -- What a run of the program has read and written, by its status.
-use Rattle.std.specs.Prelude.{◌≡◌, ℕ, ◌<◌, ◌≤◌, ◌⊎◌, List, [], ◌∷◌, ◌++◌, length, Ok, Err, Some, None, IfSome, if◌then◌else◌, not, Bool}
+use Rattle.std.specs.Prelude.{◌≡◌, ℕ, ◌<◌, ◌≤◌, ◌⊎◌, List, [], ◌∷◌, ◌++◌, length, Ok, Err, Some, None, IfSome, if◌then◌else◌, nat_lt, not, Bool}
 use Rattle.std.specs.declared.option.Option.{Option}
 use Rattle.std.specs.declared.result.Result.{Result}
 use Rattle.std.specs.List.{list_all}
@@ -12,7 +12,7 @@ use Rattle.query_rules.specs.declared.query.Cause.{Cause}
 use Rattle.query_rules.specs.declared.query.Spot.{Spot}
 use Rattle.query_rules.specs.Grammar.{Asked, said_by}
 use Rattle.query_rules.specs.History.{IsHistory, asks_ledger}
-use Rattle.query_rules.specs.Log.{IsOrder, log_text}
+use Rattle.query_rules.specs.Log.{IsOrder, log_text, refused_at, refused_length}
 
 -- the most bytes that a script may have
 abbrev pub limit : ℕ
@@ -61,9 +61,33 @@ pub record WritesFront (left left_new written written_new : Option (List ℕ)) (
   pub log : IsLogOf script rows text
   pub grew : AppendsFront written written_new text
 
--- Status 3: more bytes came than a script may have, or they ask no script.
+-- more bytes came than a script may have, or they ask no script
 abbrev pub IsRefused : List ℕ → Type 0
 IsRefused bytes = (limit < length bytes) ⊎ (script_of bytes ≡ None)
+
+abbrev pub fault_text : Result Asked (ℕ × Cause) → List ℕ
+fault_text (Ok s) = []
+fault_text (Err fault) = refused_at fault.0 fault.1
+
+-- what is written of bytes that are refused: their length or their first bad line, and nothing of a script whose queries aren't all answered yet
+abbrev pub refusal_of : List ℕ → List ℕ
+refusal_of bytes = if nat_lt limit (length bytes) then refused_length else fault_text (said_by bytes)
+
+-- the bytes are refused, and this says why
+abbrev pub IsRefusalOf : List ℕ → List ℕ → Type 0
+IsRefusalOf text bytes = IsRefused bytes × (text ≡ refusal_of bytes)
+
+-- Status 3: the bytes are refused, and what was written says why.
+pub record WritesRefusal (left written written_new : Option (List ℕ)) : Type 0 where
+  pub text : List ℕ
+  pub refused : IfSome left (IsRefusalOf text)
+  pub grew : Appends written written_new text
+
+-- Status 5 of a refused input: a front of that was written.
+pub record WritesRefusalFront (left written written_new : Option (List ℕ)) : Type 0 where
+  pub text : List ℕ
+  pub refused : IfSome left (IsRefusalOf text)
+  pub grew : AppendsFront written written_new text
 
 -- these bytes are a script, and not too many
 abbrev pub IsAccepted : List ℕ → Type 0
@@ -74,7 +98,7 @@ abbrev pub Completes : Option (List ℕ) → ℕ → ℕ → ℕ → ℕ → ℕ
 Completes left reads reads_new writes writes_new status =
     (bytes : List ℕ) → left ≡ Some bytes → IsAccepted bytes → (Rose reads reads_new → ⊥) → (Rose writes writes_new → ⊥) → (status ≡ 0) ⊎ (status ≡ 6)
 
--- Where the bytes are told and refused and no read fault is counted, the status is 3, or 6 for want of memory.
-abbrev pub Refuses : Option (List ℕ) → ℕ → ℕ → ℕ → Type 0
-Refuses left reads reads_new status =
-    (bytes : List ℕ) → left ≡ Some bytes → IsRefused bytes → (Rose reads reads_new → ⊥) → (status ≡ 3) ⊎ (status ≡ 6)
+-- Where the bytes are told and refused and no fault is counted, the status is 3, or 6 for want of memory.
+abbrev pub Refuses : Option (List ℕ) → ℕ → ℕ → ℕ → ℕ → ℕ → Type 0
+Refuses left reads reads_new writes writes_new status =
+    (bytes : List ℕ) → left ≡ Some bytes → IsRefused bytes → (Rose reads reads_new → ⊥) → (Rose writes writes_new → ⊥) → (status ≡ 3) ⊎ (status ≡ 6)

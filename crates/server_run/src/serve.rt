@@ -1,18 +1,22 @@
 // The top call.
-ghost use Rattle.std.specs.Prelude.{◌≡◌, ◌≢◌, ◌↔◌, ◌+◌, ◌<◌, ◌≤◌, ◌⊎◌, Some, None, IfOk, IfSome, IsErrOf, OnOk, OnErr, IsTrue, IsSome, List, ℕ, not};
+ghost use Rattle.std.specs.Prelude.{◌≡◌, ◌≢◌, ◌↔◌, ◌+◌, ◌<◌, ◌≤◌, ◌⊎◌, Some, None, IfOk, IfSome, IfErr, [], IsErrOf, OnOk, OnErr, IsTrue, IsSome, List, ℕ, not};
 ghost use Rattle.std.specs.List.{list_all};
 ghost use Rattle.std.specs.Io.KnownBytes.{Appends};
 ghost use Rattle.ql_base.specs.Bytes.{AppendsFront, TakesUpTo};
 ghost use Rattle.ql_base.specs.Causes.{Rose};
 ghost use Rattle.query_rules.specs.History.{asks_ledger};
-ghost use Rattle.server_run.specs.Serve.{limit, is_supported, Reads, IsLogOf, WritesOneHistory, WritesFront, IsRefused, Completes, Refuses};
+ghost use Rattle.server_run.specs.Serve.{limit, is_supported, Reads, IsLogOf, WritesOneHistory, WritesFront, IsRefusalOf, WritesRefusal, WritesRefusalFront, Completes, Refuses};
+ghost use Rattle.query_text.specs.Refusals.{refusal_text};
+ghost use Rattle.query_text.specs.declared.refusal.Refusal.{Refusal};
 ghost use Rattle.server_run.specs.Words.{options_in};
 
 use crate::order::order_of;
 use crate::run::run_script;
 use crate::{WordsFault, check_words};
 use ql_base::{Clocks, Gate, ReadFault, Sink, Source, read_to_end};
-use query_text::{Callers, ParseFault, Query, Script, parse_script, write_log};
+use query_text::{
+    Callers, ParseFault, Query, Refusal, Script, parse_script, write_log, write_refusal,
+};
 use std::alloc::Global;
 use std::sync::Wait;
 use std::thread::Threads;
@@ -36,7 +40,9 @@ const NO_MEMORY: u8 = 6;
 #[derive(Clone, Copy, Debug, PartialEq, Eq)]
 enum ScriptFault {
     Read,
-    Refused,
+    Refused(Refusal),
+    // The script asks the ledger, which isn't answered yet.
+    Unanswered,
     NoMemory,
 }
 
@@ -79,20 +85,23 @@ fn is_answered(callers: &Callers) -> bool
 fn read_script<S: Source>(alloc: Global, source: &mut S) -> Result<Script, ScriptFault>
     ensures read { IfOk result (λ script. Reads (S.left source.old) (S.left source.new) script) }
     ensures answered { IfOk result (λ script. IsTrue (is_supported script.callers)) }
-    ensures refused { IsErrOf result ScriptFault.Refused → IfSome (S.left source.old) IsRefused }
+    ensures refused { IfErr result (λ e. (r : Refusal) → e ≡ ScriptFault.Refused r → IfSome (S.left source.old) (IsRefusalOf (refusal_text r))) }
+    ensures unanswered { IsErrOf result ScriptFault.Unanswered → IfSome (S.left source.old) (IsRefusalOf []) }
     ensures fault { IsErrOf result ScriptFault.Read → Rose (S.faults source.old) (S.faults source.new) }
     ensures counted { TakesUpTo (S.left source.old) (S.left source.new) (limit + 1) }
 {
     let bytes = match read_to_end(alloc, source, LIMIT) {
         Ok(bytes) => bytes,
         Err(ReadFault::Fault) => return Err(ScriptFault::Read),
-        Err(ReadFault::TooLong) => return Err(ScriptFault::Refused),
+        Err(ReadFault::TooLong) => return Err(ScriptFault::Refused(Refusal::Length)),
         Err(ReadFault::NoMemory) => return Err(ScriptFault::NoMemory),
     };
     match parse_script(alloc, &bytes) {
         Ok(script) if is_answered(script.callers()) => Ok(script),
-        Ok(_) => Err(ScriptFault::Refused),
-        Err(ParseFault::Refused { .. }) => Err(ScriptFault::Refused),
+        Ok(_) => Err(ScriptFault::Unanswered),
+        Err(ParseFault::Refused { line, cause }) => {
+            Err(ScriptFault::Refused(Refusal::Line { line, cause }))
+        }
         Err(ParseFault::NoMemory) => Err(ScriptFault::NoMemory),
     }
 }
@@ -123,6 +132,19 @@ fn answer<K: Sink, G: Gate>(
     }
 }
 
+// Tells a refusal.
+fn refuse<K: Sink>(sink: &mut K, refusal: Refusal) -> u8
+    ensures told { result ≡ 3 → Appends (K.written sink.old) (K.written sink.new) (refusal_text refusal) }
+    ensures cut { result ≡ 5 → AppendsFront (K.written sink.old) (K.written sink.new) (refusal_text refusal) }
+    ensures fault { result ≡ 5 → Rose (K.faults sink.old) (K.faults sink.new) }
+    ensures known { (result ≡ 3) ⊎ (result ≡ 5) }
+{
+    match write_refusal(sink, refusal) {
+        Ok(()) => REFUSED,
+        Err(_) => WRITE_FAULT,
+    }
+}
+
 /// Does all that the program does, and answers its status: 0 done, 2 usage, 3 refused, 4 a read
 /// fault, 5 a write fault, 6 no memory.
 ///
@@ -143,18 +165,20 @@ pub fn serve_main<R: Threads + Wait + Sync, S: Source, K: Sink, T: Clocks, G: Ga
 
     // Each other status has its cause.
     ensures usage { (result ≡ 2) ↔ (options_in words.now ≡ None) }
-    ensures refused { result ≡ 3 → IfSome (S.left source.old) IsRefused }
+    ensures refused { result ≡ 3 → WritesRefusal (S.left source.old) (K.written sink.old) (K.written sink.new) }
     ensures read_fault { result ≡ 4 → Rose (S.faults source.old) (S.faults source.new) }
     ensures write_fault { result ≡ 5 → Rose (K.faults sink.old) (K.faults sink.new) }
-    ensures cut { result ≡ 5 → IfSome (options_in words.now) (λ o. WritesFront (S.left source.old) (S.left source.new) (K.written sink.old) (K.written sink.new) o.rows) }
+    ensures cut { result ≡ 5 →
+        IfSome (options_in words.now) (λ o. WritesFront (S.left source.old) (S.left source.new) (K.written sink.old) (K.written sink.new) o.rows)
+        ⊎ WritesRefusalFront (S.left source.old) (K.written sink.old) (K.written sink.new) }
     ensures known { (result ≡ 0) ⊎ (result ≡ 2) ⊎ (result ≡ 3) ⊎ (result ≡ 4) ⊎ (result ≡ 5) ⊎ (result ≡ 6) }
 
     // With words that ask for a run, bytes that are accepted are answered, and others are refused.
     ensures complete { IsSome (options_in words.now) → Completes (S.left source.old) (S.faults source.old) (S.faults source.new) (K.faults sink.old) (K.faults sink.new) result }
-    ensures refuses { IsSome (options_in words.now) → Refuses (S.left source.old) (S.faults source.old) (S.faults source.new) result }
+    ensures refuses { IsSome (options_in words.now) → Refuses (S.left source.old) (S.faults source.old) (S.faults source.new) (K.faults sink.old) (K.faults sink.new) result }
 
-    // Nothing is written but at statuses 0 and 5, and at status 2 nothing is read.
-    ensures silent { result ≢ 0 → result ≢ 5 → sink.new ≡ sink.old }
+    // Nothing is written at the other statuses, and at status 2 nothing is read.
+    ensures silent { (result ≡ 2) ⊎ (result ≡ 4) ⊎ (result ≡ 6) → sink.new ≡ sink.old }
     ensures unread { result ≡ 2 → source.new ≡ source.old }
 
     // Reading stops once one byte more came than a script may have.
@@ -168,7 +192,8 @@ pub fn serve_main<R: Threads + Wait + Sync, S: Source, K: Sink, T: Clocks, G: Ga
     let script = match read_script(alloc, source) {
         Ok(script) => script,
         Err(ScriptFault::Read) => return READ_FAULT,
-        Err(ScriptFault::Refused) => return REFUSED,
+        Err(ScriptFault::Refused(refusal)) => return refuse(sink, refusal),
+        Err(ScriptFault::Unanswered) => return REFUSED,
         Err(ScriptFault::NoMemory) => return NO_MEMORY,
     };
     match answer(alloc, &script, options.rows, sink, gate) {

@@ -66,17 +66,29 @@ fn nothing_is_written_where_a_read_fails(rt: HostRuntime) -> Result<(), AllocErr
 }
 
 #[test]
-fn refused_input_and_wrong_words_write_nothing(rt: HostRuntime) -> Result<(), AllocError> {
+fn a_refused_input_is_told(rt: HostRuntime) -> Result<(), AllocError> {
     let words = vec![in rt.alloc(); String::from_str(rt.alloc(), "run")?]?;
-    for script in [
-        b"".as_slice(),
-        b"cells 1\nget 0 1\n",
-        b"cells 1\ncaller\naudit\n",
-    ] {
-        let (status, written) = run(&rt, &words, script, &[], &[])?;
-        assert_eq!(rt; status, 3);
-        assert!(rt; written.is_empty());
-    }
+    let (status, written) = run(&rt, &words, b"", &[], &[])?;
+    assert_eq!(rt; status, 3);
+    assert_eq!(rt;
+        written.as_slice(),
+        b"refused line 1 MissingCells\n".as_slice()
+    );
+    let (status, written) = run(&rt, &words, b"cells 1\nget 0 1\n", &[], &[])?;
+    assert_eq!(rt; status, 3);
+    assert_eq!(rt; written.as_slice(), b"refused line 2 NoCaller\n".as_slice());
+    let (status, written) = run(&rt, &words, b"cells 1\nget 0 1\n", &[], &[0])?;
+    assert_eq!(rt; status, 5);
+    assert!(rt; written.is_empty());
+    Ok(())
+}
+
+#[test]
+fn unanswered_queries_and_wrong_words_write_nothing(rt: HostRuntime) -> Result<(), AllocError> {
+    let words = vec![in rt.alloc(); String::from_str(rt.alloc(), "run")?]?;
+    let (status, written) = run(&rt, &words, b"cells 1\ncaller\naudit\n", &[], &[])?;
+    assert_eq!(rt; status, 3);
+    assert!(rt; written.is_empty());
     let none: Vec<String> = Vec::new(rt.alloc());
     let (status, written) = run(&rt, &none, b"cells 1\n", &[], &[])?;
     assert_eq!(rt; status, 2);

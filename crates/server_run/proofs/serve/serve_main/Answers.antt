@@ -1,0 +1,19 @@
+use Rattle.std.proofs.Common.{inr, subst}
+use Rattle.ql_base.specs.Bytes.{AppendsFront}
+use Rattle.query_text.specs.declared.refusal.Refusal.{Refusal}
+use Rattle.query_text.specs.Refusals.{refusal_text}
+use Rattle.server_run.proofs.Refusals.{accepted_alone}
+use Rattle.server_run.proofs.serve.serve_main.Goals as goal
+
+pub returns-in-Err-Refused-clause-cut : goal.returns-in-Err-Refused-clause-cut
+returns-in-Err-Refused-clause-cut g c = λ is.
+    let P : Refusal → Type 0 = λ r. AppendsFront (g.K.Sink.written c.args.sink.now) (g.K.Sink.written c.refuse.new.sink) (refusal_text r) in
+    inr (record {
+      text = refusal_text c.in-Err-Refused.refusal;
+      refused = c.in-Err-Refused.ensures.refused c.in-Err-Refused.refusal c.in-Err-Refused.field-0-is;
+      grew = subst P c.in-Err-Refused.refusal-is (c.refuse.ensures.cut is);
+    })
+
+pub returns-in-Err-Refused-clause-complete : goal.returns-in-Err-Refused-clause-complete
+returns-in-Err-Refused-clause-complete g c = λ asked bytes told accepted read write.
+    absurd (accepted_alone (g.S.Source.left c.args.source.now) bytes (refusal_text c.in-Err-Refused.refusal) told (c.in-Err-Refused.ensures.refused c.in-Err-Refused.refusal c.in-Err-Refused.field-0-is) accepted)
