@@ -2,12 +2,14 @@
 use crate::serve_main;
 use ql_base::{ListClocks, MemSink, MemSource, OpenGate};
 use std::alloc::{AllocError, Global};
+use std::sync::Wait;
+use std::thread::Threads;
 
 const ROOM: usize = 4096;
 
 // The status of a run over this script, and what it wrote.
-fn run(
-    rt: &HostRuntime,
+fn run<R: Threads + Wait + Sync + AllocGlobal>(
+    rt: &R,
     words: &[String],
     script: &[u8],
     failing_reads: &[u64],
