@@ -7,11 +7,13 @@
 //! hand, and puts it back as the lock is given up.
 //!
 //! The contracts promise one history: the value that an owner finds is what a list of jobs made of the first value, the
-//! answer of each is its plain meaning at its position, and a pass's own answers are among them, in the order of their
-//! positions. Where all passes were joined, `close` gives the value back, and the closing pass's answers are those of
+//! answer of each is its plain meaning at its position, and a pass's own answers are among them, below the position of
+//! the next job. Where all passes were joined, `close` gives the value back, and the closing pass's answers are those of
 //! the whole history, each once. The steps of each call are told exactly. Nothing is promised of a wait's end.
 #![tactic(auto)]
 
+#[cfg(test)]
+mod crowd;
 pub mod lock;
 pub mod mutex;
 pub mod owner;

@@ -1,5 +1,5 @@
 -- Each event keeps the rule, and tells what its play says.
-use Rattle.std.proofs.Common.{◌≡◌, ℕ, ◌+◌, ◌-◌, ◌*◌, ◌/◌, ◌%◌, ◌^◌, ◌<◌, ◌≤◌, ◌≢◌, ◌⊎◌, inl, inr, ⊎_elim, ◌||◌, ◌&&◌, ◌==◌, if◌then◌else◌, List, set, get_or, drop, Bool, true, false, eqb, ne_eqb, eq-eqb, nat_lt, lt-ltb, cond, sym, refl, ap, ◌∙◌, subst, arith, length-set, get_or-set_same, get_or-set_other, Option, Some, None, lit<}
+use Rattle.std.proofs.Common.{◌≡◌, ℕ, ◌+◌, ◌-◌, ◌*◌, ◌/◌, ◌%◌, ◌^◌, ◌<◌, ◌≤◌, ◌≢◌, ◌⊎◌, inl, inr, ⊎_elim, ◌||◌, ◌&&◌, ◌==◌, if◌then◌else◌, List, map, set, get_or, drop, Bool, true, false, eqb, ne_eqb, eq-eqb, nat_lt, lt-ltb, cond, sym, refl, ap, ◌∙◌, subst, arith, length-set, get_or-set_same, get_or-set_other, Option, Some, None, lit<}
 use mathlib.Core.Option.{some}
 use mathlib.Core.Logic.{dite}
 use Rattle.std.proofs.Math.Decide.{dec_lt}
@@ -25,10 +25,12 @@ use Rattle.hall.specs.declared.view.Kind.{Kind}
 use Rattle.hall.specs.declared.view.Kind.TheVariants as kinds
 use Rattle.hall.specs.declared.view.Standing.{Standing}
 use Rattle.hall.specs.declared.view.Standing.TheVariants.{Away, Inline, Undecided, Owing, Upgrade, Announcing, Exclusive}
-use Rattle.hall.specs.Cargo.{shared_mode, exclusive_mode, Lowers}
+use Rattle.hall.specs.Cargo.{shared_mode, exclusive_mode, CargoSeat, Lowers, learnt_seat}
+use Rattle.hall.specs.Rule.{cargo_seat}
+use Rattle.std.proofs.lemmas.List.{set-get_or, map-set}
 use Rattle.view_sums.specs.Sums.{total, term_le, total-plus}
 use Rattle.hall.specs.Locks.{Tally, weight, Lawful, cover, count, counts, named_by}
-use Rattle.hall.specs.Views.{is_away, mode_of, standing, after_step, after_look}
+use Rattle.hall.specs.Views.{pending, is_away, mode_of, standing, after_step, after_look}
 use Rattle.hall.specs.Trails.{is_join, Others}
 use Rattle.hall.specs.Moves.{role_of, lock_shown, after_act, Moment}
 use Rattle.hall.specs.Plays.{conflicts_for_shared, conflicts_for_announcing, Looks, Enters, GivesBack, lowered_part, lowered_act, Announces, Holding, HoldMisses, Retracts, Releases}
@@ -36,9 +38,9 @@ use Rattle.hall.specs.Rule.{Holds, Formed}
 use Rattle.hall.specs.NumberLaws.{numbers_differ}
 use Rattle.hall.proofs.Arith.{enter_lawful, lower_lawful, announce_lawful, hold_lawful, retract_lawful, release_lawful, units}
 use Rattle.hall.specs.Shows.{law_bits}
-use Rattle.hall.proofs.Locking.{plus, gone, counts_split, no_hands}
+use Rattle.hall.proofs.Locking.{plus, gone, counts_same, counts_split, no_hands}
 use Rattle.hall.proofs.Cargoes.{reading_fits, writing_fits}
-use Rattle.hall.proofs.Keeps.{reader_cause}
+use Rattle.hall.proofs.Keeps.{kept, reader_cause}
 use Rattle.hall.specs.ShownLaws.{shown_same, acts}
 use Rattle.hall.proofs.Slots.{Done}
 use Rattle.hall.proofs.Steps.{quiet, few_units, few_named, roomy, changes, gains, loses, rests}
@@ -122,6 +124,9 @@ missed_law : (w named p : ℕ) (o : Tally) → w < 18446744073709551616 → (o.p
 missed_law w named p o fits empty few swept l miss = let a = l.alone in let m = l.barred (omega arith) in let b = law_bits w named (plus o (weight (Announcing p 0 false))) l in let b0 = b.0 in let n = swept (omega arith) (omega arith) in let e = empty (omega arith) in let s = l.shows in
     ((λ z. miss (omega (arith, z))), dite (dec_lt 0 (units o)) (λ d. d) (λ no. absurd (miss (omega arith))))
 
+load_hold : kinds.Load ≡ kinds.Hold → ⊥
+load_hold e = cc
+
 module _ {C P : Type 0} (g : Ghosts C P) (plan : Plan C) (s : State (Unit {0}) (View P)) (h : Holds g plan s) (id lock : ℕ) (v : View P) (at : get_elem? s.views id ≡ some v) (lives : 0 < v.span) (shape : v.shape ≡ plan.shape) (near : lock < plan.shape.locks) where
   abbrev word : ℕ
   word = get_or s.words (plan.shape.slots + lock) 0
@@ -168,6 +173,23 @@ module _ {C P : Type 0} (g : Ghosts C P) (plan : Plan C) (s : State (Unit {0}) (
   pub looks_at : (kind : Kind) → is_join kind ≡ false → word < 18446744073709551616 → (kind ≡ kinds.Hold → units_of word ≢ 0 → Others s.views lock v.number) → Kept word (after_look v kind lock word) × Looks g kind v lock word (after_look v kind lock word)
   looks_at kind steps fits held = let kept : Kept word (after_look v kind lock word) = quiet g plan s h id lock v kind at lives near steps held in
       (kept, (refl, roomy g plan s h lock near fits, moment (after_look v kind lock word) word None kept (stays kind word false (standing v lock) v.part) refl refl (still (after_look v kind lock word) refl refl (ap role_of (stands kind word false (standing v lock) v.part)))))
+
+  -- the same with another part
+  pub looks_noted : word < 18446744073709551616 → (part : P) → g.holds plan.cargo (drop (plan.shape.slots + plan.shape.locks) s.words) (set (map cargo_seat s.views) id (learnt_seat (cargo_seat v) part))
+      → let w = after_step v kinds.Load lock word false (standing v lock) part in Kept word w × ((w ≡ w) × (units_of word ≢ 2147483647) × Moment g v w lock word word None)
+  looks_noted fits part loads =
+      let w : View P = after_step v kinds.Load lock word false (standing v lock) part in
+      let same : standing w lock ≡ standing v lock = stands kinds.Load word false (standing v lock) part in
+      let modes : map mode_of (set v.standings lock (standing v lock)) ≡ map mode_of v.standings = ap (map mode_of) (set-get_or v.standings lock Away) in
+      let seat : cargo_seat w ≡ learnt_seat (cargo_seat v) part = λ i. record { number = v.number; quota = v.quota; modes = modes i; part = part } in
+      let seats : map cargo_seat (set s.views id w) ≡ set (map cargo_seat s.views) id (learnt_seat (cargo_seat v) part) = map-set cargo_seat s.views id w ∙ ap (λ (z : CargoSeat P). set (map cargo_seat s.views) id z) seat in
+      let kept' : Kept word w = kept g plan s h id lock word v kinds.Load false (standing v lock) part at lives near refl (λ _. refl) (λ ne. absurd (ne refl)) (λ is _ _. absurd (load_hold is))
+      (subst (Lawful word (named_by plan.shape.slots lock s.words)) (sym (counts_same s.views id lock v w at same)) (h.lawful lock near))
+      (λ k ns old new inside is sum le. let c : cover k (standing w lock) ≡ cover k (standing v lock) = ap (cover k) same in omega (arith, c, sum, le))
+      ((h.formed id v at).seated lock)
+      (subst (λ (l : List Standing). total pending l ≤ 1) (sym (set-get_or v.standings lock Away)) (h.formed id v at).one_pending)
+      (subst (g.holds plan.cargo (drop (plan.shape.slots + plan.shape.locks) s.words)) (sym seats) loads) in
+      (kept', (refl, roomy g plan s h lock near fits, moment w word None kept' (stays kinds.Load word false (standing v lock) part) refl refl (still w refl refl (ap role_of same))))
 
   -- the counts of the others, and the law with this pass's standing x
   law_at : (x : Standing) → standing v lock ≡ x → Lawful word (named_by plan.shape.slots lock s.words) (plus (counts lock (set s.views id (gone v))) (weight x))

@@ -53,6 +53,10 @@ module _ {C P : Type 0} (g : Ghosts C P) where
   abbrev pub Loads : View P → ℕ → ℕ → View P → Type 0
   Loads = Looks kinds.Load
 
+  -- a load that also notes something in the part
+  abbrev pub LoadsNoted : (ℕ → P → P → Type 0) → View P → ℕ → ℕ → View P → Type 0
+  LoadsNoted becomes v lock found w = (part : P) × becomes found v.part part × (w ≡ after_step v kinds.Load lock found false (standing v lock) part) × HasRoom found × Moment g v w lock found found None
+
   -- a mode was gained: the cargo words behind the lock were noted in the part
   abbrev pub Gains : Kind → Standing → View P → ℕ → ℕ → View P → Type 0
   Gains kind y v lock found w = (ws : List ℕ) × (part : P) × g.gains lock ws v.part part × (w ≡ after_step v kind lock found true y part)

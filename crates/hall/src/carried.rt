@@ -1,16 +1,18 @@
 //! Steps on the cargo's words.
 ghost use Rattle.std.specs.Prelude.{◌≡◌, ◌+◌, ◌<◌, ◌≤◌, ◌%◌, ◌^◌, true, false};
-ghost use Rattle.hall.specs.Cargo.{Notes};
+ghost use Rattle.hall.specs.Cargo.{Notes, NotesAside};
 ghost use Rattle.hall.specs.Rule.{cargo_seat};
 ghost use Rattle.hall.specs.Views.{after_note};
 ghost use Rattle.hall.specs.declared.view.Kind.TheVariants.{LoadCargo, StoreCargo, AddCargo};
 
 use crate::cargo::Cargo;
 use crate::hall::{Hall, Pass};
-use crate::plays::{AddNoted, LoadNoted, Note, StoreNoted};
+use crate::plays::{AddNoted, LoadNoted, LoadNotedAside, Note, StoreNoted};
+use state_word::Word;
 
 impl<C: Cargo> Hall<C> {
     ghost use Rattle.hall.specs.Passes.{view, IsPassOf, shape_of, cargo_of};
+    ghost use Rattle.hall.specs.Plays.{LoadsNoted};
 
     fn cargo_place(&self, place: u64) -> usize
         requires { place < (shape_of self.now).words }
@@ -20,7 +22,21 @@ impl<C: Cargo> Hall<C> {
         (self.slots + self.locks + place) as usize
     }
 
-    /// Loads a cargo word.
+    /// Loads the state word of a lock, and notes something in the pass's part of the cargo. The note has to keep the
+    /// cargo's rule.
+    pub fn load_noted<N: Note<C>>(&self, pass: &mut Pass<C>, lock: u64) -> Word
+        requires pass { IsPassOf self.now pass.old }
+        requires lock { lock < (shape_of self.now).locks }
+        requires note { NotesAside (C.holds (cargo_of self.now)) pass.old.seat.id (cargo_seat (view pass.old)) N.becomes }
+        ensures pass { IsPassOf self.now pass.new × (pass.new.seat.id ≡ pass.old.seat.id) }
+        ensures step { LoadsNoted C.CargoRule N.becomes (view pass.old) lock result (view pass.new) }
+    {
+        let place = self.place(lock);
+        let table = &self.table.shared;
+        Word(table.load::<LoadNotedAside<N, C>>(&mut pass.seat, place))
+    }
+
+    /// Loads a cargo word. The note says what the pass knows afterwards; it has to keep the cargo's rule.
     pub fn load_cargo<N: Note<C>>(&self, pass: &mut Pass<C>, place: u64) -> u64
         requires pass { IsPassOf self.now pass.old }
         requires place { place < (shape_of self.now).words }
@@ -33,7 +49,7 @@ impl<C: Cargo> Hall<C> {
         table.load::<LoadNoted<N, C>>(&mut pass.seat, word)
     }
 
-    /// Stores a cargo word.
+    /// Stores a cargo word. The note says what the pass knows afterwards; it has to keep the cargo's rule.
     pub fn store_cargo<N: Note<C>>(&self, pass: &mut Pass<C>, place: u64, value: u64)
         requires pass { IsPassOf self.now pass.old }
         requires place { place < (shape_of self.now).words }

@@ -12,19 +12,27 @@ ghost use Rattle.hall.specs.Views.{standing};
 use crate::cargo::Cargo;
 use crate::hall::{Hall, Pass};
 use atomic_table::Closed as ClosedTable;
+use lock_model::Policy;
 use std::alloc::Global;
 
-/// The words of a hall that was closed.
+/// The words of a hall that was closed, and how the hall was made. It comes only from `Hall::close`.
 pub struct Closed {
     pub(crate) table: ClosedTable<(), Global>,
-    pub(crate) base: u64,
+    pub(crate) slots: u64,
+    pub(crate) locks: u64,
+    pub(crate) policy: Policy,
     ghost full: { IsFull table.words × (slots_len table.slots ≡ 0) },
-    ghost sized: { (base ≤ slots_len table.words) × (slots_len table.words < 4294967296) },
+    ghost sized: { (slots + locks ≤ slots_len table.words) × (slots_len table.words < 4294967296) },
 }
 
 impl Drop for Closed {
     fn drop(self) {
-        let Closed { table, base: _ } = self;
+        let Closed {
+            table,
+            slots: _,
+            locks: _,
+            policy: _,
+        } = self;
         table.free();
     }
 }
@@ -37,26 +45,35 @@ impl Closed {
         requires { place < length (closed_words self.now) }
         ensures { result ≡ slice_index (closed_words self.now) place }
     {
-        self.table.word((self.base + place) as usize)
+        self.table.word((self.slots + self.locks + place) as usize)
     }
 }
 
 impl<C: Cargo> Hall<C> {
-    ghost use Rattle.hall.specs.Passes.{view, IsPassOf, cargo_of, shape_of};
-    ghost use Rattle.hall.specs.Closing.{closed_words};
+    ghost use Rattle.atomic_table.specs.Table.{State};
+    ghost use Rattle.hall.specs.declared.view.View.{View};
+    ghost use Rattle.hall.specs.Passes.{view, IsPassOf, cargo_of, plan_of, shape_of};
+    ghost use Rattle.hall.specs.Closing.{closed_words, WasOf};
+    ghost use Rattle.hall.specs.Rule.{Holds};
 
-    /// Closes the hall with a pass that is away from every lock and at rest. The cargo's rule holds of the words that are left.
+    /// Closes the hall with a pass that is away from every lock and at rest.
+    ///
+    /// The rule of the hall held at the end, with this pass's view among the views: so what its steps and its trail say
+    /// of other passes can be read off. The cargo's rule holds of the words that are left, and where the pass covers all
+    /// numbers, each other pass has nothing left.
     pub fn close(self, pass: Pass<C>) -> Closed
         requires pass { IsPassOf self pass }
         requires away { (lock : ℕ) → standing (view pass) lock ≡ Away }
         requires rested { C.rested (view pass).part }
-        ensures { (seats : List (CargoSeat C.Part)) × C.holds (cargo_of self) (closed_words result) seats × (get_elem? seats pass.seat.id ≡ some (cargo_seat (view pass))) × (width (view pass) ≡ (shape_of self).seats → (j : ℕ) (q : CargoSeat C.Part) → get_elem? seats j ≡ some q → j ≢ pass.seat.id → q.part ≡ C.spent) }
+        ensures shape { WasOf result (shape_of self) }
+        ensures rule { (s : State (Unit {0}) (View C.Part)) × Holds C.CargoRule (plan_of self) s × (get_elem? s.views pass.seat.id ≡ some (view pass)) }
+        ensures cargo { (seats : List (CargoSeat C.Part)) × C.holds (cargo_of self) (closed_words result) seats × (get_elem? seats pass.seat.id ≡ some (cargo_seat (view pass))) × (width (view pass) ≡ (shape_of self).seats → (j : ℕ) (q : CargoSeat C.Part) → get_elem? seats j ≡ some q → j ≢ pass.seat.id → q.part ≡ C.spent) }
     {
         let Hall {
             table,
             slots,
             locks,
-            policy: _,
+            policy,
             cargo: _,
         } = self;
         let Pass {
@@ -67,7 +84,9 @@ impl<C: Cargo> Hall<C> {
         } = pass;
         Closed {
             table: table.close_with(seat),
-            base: slots + locks,
+            slots,
+            locks,
+            policy,
         }
     }
 }

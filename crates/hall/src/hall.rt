@@ -88,7 +88,7 @@ impl<C: Cargo> Hall<C> {
         self.policy
     }
 
-    fn place(&self, lock: u64) -> usize
+    pub(crate) fn place(&self, lock: u64) -> usize
         requires { lock < (shape_of self.now).locks }
         ensures value { result ≡ (shape_of self.now).slots + lock }
         ensures inside { result < self.now.table.shared.table_id.words }

@@ -31,6 +31,8 @@ pub mod no_cargo;
 mod passes;
 pub mod plays;
 pub mod rule;
+#[cfg(test)]
+mod tests;
 pub mod view;
 
 pub use cargo::{Cargo, CargoRule};

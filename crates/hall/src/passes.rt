@@ -34,7 +34,8 @@ impl<C: Cargo> Hall<C> {
         }
     }
 
-    /// Gives some of the spare numbers and of the quota to a new pass.
+    /// Gives the last `seats` of the spare numbers and so much of the quota to a new pass. The new pass has the first of
+    /// these numbers, and the others spare; it is away from every lock, and has no steps and no trail.
     pub fn split(&self, pass: &mut Pass<C>, seats: u64, quota: u64) -> Pass<C>
         requires pass { IsPassOf self.now pass.old }
         requires seats { (0 < seats) × (seats < (view pass.old).span) }
@@ -45,7 +46,8 @@ impl<C: Cargo> Hall<C> {
         self.split_by::<Brand>(pass, seats, quota)
     }
 
-    /// Takes in another pass, which is away from every lock and at rest.
+    /// Takes in another pass, which is away from every lock and at rest: its quota, its steps and its trail. Its numbers
+    /// aren't given again.
     pub fn join(&self, pass: &mut Pass<C>, other: Pass<C>)
         requires pass { IsPassOf self.now pass.old }
         requires other { IsPassOf self.now other }

@@ -129,6 +129,16 @@ pub trait Note<C: CargoRule> {
     ghost becomes: { ℕ → C.Part → C.Part → Type 0 };
 }
 
+pub struct LoadNotedAside<N, C> {
+    marker: PhantomData<(N, C)>,
+}
+
+impl<C: CargoRule, N: Note<C>> Play<(), View<C::Part>> for LoadNotedAside<N, C> {
+    ghost use Rattle.hall.specs.Plays.{At, LoadsNoted};
+
+    ghost then = { At (LoadsNoted C.CargoRule N.becomes) };
+}
+
 pub struct LoadNoted<N, C> {
     marker: PhantomData<(N, C)>,
 }

@@ -1,5 +1,5 @@
 -- What the calls of the shared lock leave to their pass.
-use Rattle.std.specs.Prelude.{◌≡◌, ◌≢◌, ℕ, ◌+◌, ◌≤◌, ◌⊎◌, List, length, Bool, true, false, Option, Some, None}
+use Rattle.std.specs.Prelude.{◌≡◌, ◌≢◌, ℕ, ◌+◌, ◌≤◌, ◌⊎◌, length, true, false, Some}
 use Rattle.lock_model.specs.declared.model.Act.TheVariants as act
 use Rattle.state_word.specs.Words.{units_of, retract_of}
 use Rattle.hall.specs.declared.cargo.CargoRule.{Ghosts}
@@ -7,10 +7,9 @@ use Rattle.hall.specs.declared.guards.TryFault.{TryFault}
 use Rattle.hall.specs.declared.guards.TryFault.TheVariants.{Busy, Raced}
 use Rattle.hall.specs.declared.view.View.{View}
 use Rattle.hall.specs.declared.view.Kind.TheVariants as kinds
-use Rattle.hall.specs.declared.view.Standing.{Standing}
-use Rattle.hall.specs.declared.view.Standing.TheVariants.{Away, Announcing}
+use Rattle.hall.specs.declared.view.Standing.TheVariants.{Away}
 use Rattle.hall.specs.Moves.{Moment}
-use Rattle.hall.specs.Plays.{conflicts_for_shared, conflicts_for_announcing, Enters, Announces, Holding, HoldMisses}
+use Rattle.hall.specs.Plays.{conflicts_for_shared, conflicts_for_announcing, Enters, Announces, Holding}
 use Rattle.hall.specs.Reasons.{WasNotAlone, MetAWriter}
 use Rattle.hall.specs.Views.{standing, after_look, after_step}
 

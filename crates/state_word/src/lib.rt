@@ -172,7 +172,7 @@ impl Word {
         ensures { result ≡ to_upgrade_of self }
     {
         let upgrade = if self.upgrade() { 0 } else { UPGRADE };
-        Word(self.0 - HELD + upgrade)
+        Word(self.0 + upgrade - HELD)
     }
 
     /// So many more inline readers.

@@ -1,11 +1,11 @@
 -- What stays as an owner goes on with a chain, so that its ownership may still end.
-use Rattle.std.proofs.Common.{Some, ◌≡◌, ℕ, ◌+◌, ◌-◌, ◌*◌, ◌≤◌, List, [], ◌∷◌, ◌++◌, length, false, refl, sym, ap, ◌∙◌, subst, ⊎_elim, append_assoc, arith}
+use Rattle.std.proofs.Common.{Some, ◌≡◌, ℕ, ◌+◌, ◌≤◌, List, [], ◌∷◌, ◌++◌, length, false, refl, sym, ap, ◌∙◌, subst, ⊎_elim, append_assoc, arith}
 use Rattle.waiter_chain.specs.Goods.{Goods, Runs}
-use Rattle.waiter_chain.specs.Steps.{SeatState, ownership, entry, ended}
+use Rattle.waiter_chain.specs.Steps.{SeatState, ownership, entry}
 use Rattle.waiter_chain.specs.Calls.{HasTurn, Won, MayEnd, FollowsAs, SawOthers}
 use Rattle.waiter_chain.specs.declared.view.Entry.{Entry}
 use Rattle.waiter_chain.specs.declared.view.Ownership.{Ownership}
-use Rattle.waiter_chain.specs.declared.view.Event.TheVariants.{Free, TakeChain, Grant}
+use Rattle.waiter_chain.specs.declared.view.Event.TheVariants.{Free, TakeChain}
 use Rattle.waiter_chain.specs.declared.turn.Turn.{Turn}
 use Rattle.waiter_chain.specs.declared.turn.Follow.TheVariants as follow
 use Rattle.waiter_chain.proofs.Rules.{owns-injective}

@@ -10,6 +10,8 @@ use Rattle.waiter_chain.specs.declared.turn.Turn.{Turn}
 use Rattle.waiter_chain.specs.declared.turn.DistBusy.{DistBusy}
 use Rattle.waiter_chain.specs.declared.turn.Entered.{Entered}
 use Rattle.waiter_chain.specs.declared.turn.Entered.TheVariants as entered
+use Rattle.waiter_chain.specs.declared.turn.Arrived.{Arrived}
+use Rattle.waiter_chain.specs.declared.turn.Arrived.TheVariants as arrived
 use Rattle.waiter_chain.specs.declared.turn.Polled.{Polled}
 use Rattle.waiter_chain.specs.declared.turn.Polled.TheVariants as polled
 use Rattle.waiter_chain.specs.declared.turn.Follow.{Follow}
@@ -51,6 +53,11 @@ module _ {P : Type 0} where
   abbrev pub EnteredAs : (Goods P → Type 0) → ℕ → ℕ → SeatState P → SeatState P → Entered → Type 0
   EnteredAs rule slots b m n (entered.Owner t) = Won rule slots t (readied_state m) (entry m.0 SwapIn 0 0) n × (t.first ≡ m.0.number + 2) × (t.end ≡ m.0.number + 2) × (t.mark ≡ m.0.number + 2)
   EnteredAs rule slots b m n entered.Behind = (b ≢ 0) × (n ≡ (moved (readied_state m).0 (Behind b) (entry m.0 SwapIn 0 b), []))
+
+  -- the same
+  abbrev pub ArrivedAs : (Goods P → Type 0) → ℕ → ℕ → SeatState P → SeatState P → Arrived → Type 0
+  ArrivedAs rule slots b m n (arrived.Owner t) = EnteredAs rule slots b m n (entered.Owner t)
+  ArrivedAs rule slots b m n arrived.Waiting = EnteredAs rule slots b m n entered.Behind
 
   -- one load of its own status found 1, or 4 and more
   abbrev pub PolledAs : (Goods P → Type 0) → ℕ → ℕ → SeatState P → SeatState P → Polled → Type 0

@@ -3,7 +3,7 @@ ghost use Rattle.std.specs.Prelude.{◌≡◌, ◌≢◌, ◌⊎◌, ℕ, ◌+�
 ghost use Rattle.waiter_chain.specs.Goods.{Goods};
 ghost use Rattle.waiter_chain.specs.Chains.{covers};
 ghost use Rattle.waiter_chain.specs.Steps.{cut_left, cut_right, joined, entry};
-ghost use Rattle.waiter_chain.specs.Calls.{IsIdle, IsBehind, HasTurn, OwnsBy, TriedIn, WasBusy, EnteredAs, PolledAs, FollowsAs, MayEnd, Ended, SawOthers, TookAs};
+ghost use Rattle.waiter_chain.specs.Calls.{IsIdle, IsBehind, HasTurn, OwnsBy, TriedIn, WasBusy, EnteredAs, ArrivedAs, PolledAs, FollowsAs, MayEnd, Ended, SawOthers, TookAs};
 ghost use Rattle.waiter_chain.specs.declared.view.Ownership.{Ownership};
 ghost use Rattle.waiter_chain.specs.declared.view.Event.TheVariants as event;
 ghost use Rattle.waiter_chain.specs.declared.view.Stage.TheVariants.{Owns};
@@ -14,7 +14,7 @@ use crate::plays::{
     TryIn,
 };
 use crate::runs::OwnRuns;
-use crate::turn::{DistBusy, Entered, Follow, Kind, Polled, Turn};
+use crate::turn::{Arrived, DistBusy, Entered, Follow, Kind, Polled, Turn};
 use crate::view::{Opening, View};
 use atomic_table::{Seat, Table};
 use std::alloc::Global;
@@ -216,6 +216,19 @@ impl<P: Freight> Chain<P> {
     {
         match kind {
             Kind::Plain => self.enter_as::<Brand>(pass),
+        }
+    }
+
+    /// `enter`, after which a pass can be polled. It is all that a node does to wait as long as no node stores a link.
+    pub fn arrive(&self, pass: &mut ChainPass<P>, kind: Kind) -> Arrived
+        requires own { pass.old.seat.table_id ≡ self.now.table.shared.table_id }
+        requires idle { IsIdle pass.old.seat.me }
+        ensures own { (pass.new.seat.table_id ≡ pass.old.seat.table_id) × (pass.new.seat.id ≡ pass.old.seat.id) }
+        ensures answer { ArrivedAs (P.rule self.now.table.shared.key) self.now.table.shared.table_id.slots pass.new.behind pass.old.seat.me pass.new.seat.me result }
+    {
+        match self.enter(pass, kind) {
+            Entered::Owner(turn) => Arrived::Owner(turn),
+            Entered::Behind => Arrived::Waiting,
         }
     }
 

@@ -29,6 +29,14 @@ pub enum Entered {
     Behind,
 }
 
+/// What a pass is once it has arrived.
+pub enum Arrived {
+    /// The central word was 0.
+    Owner(Turn),
+    /// It waits behind another.
+    Waiting,
+}
+
 /// What a waiting pass found in its own status.
 pub enum Polled {
     /// It still waits.

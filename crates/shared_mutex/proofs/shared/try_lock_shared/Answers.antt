@@ -1,4 +1,4 @@
-use Rattle.std.proofs.Common.{◌≡◌, true, sym, refl, ap, ◌∙◌}
+use Rattle.std.proofs.Common.{◌≡◌, true, sym, ap, ◌∙◌}
 use Rattle.lock_model.specs.declared.model.Policy.{Policy}
 use Rattle.hall.specs.declared.view.Kind.TheVariants.{Enter}
 use Rattle.hall.specs.declared.view.Shape.{Shape}
