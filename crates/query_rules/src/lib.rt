@@ -7,8 +7,10 @@
 //! Its few functions are one table, [`Verb`], by which a script is read and a log is written.
 #![tactic(auto)]
 
+mod numeral;
 mod query;
 mod verb;
 
+pub use numeral::number;
 pub use query::{Cause, LedgerTold, LedgerTrouble, Query, Reply, Said, Section, Spot, Total};
 pub use verb::Verb;
