@@ -1,1 +1,3 @@
 mod Examples
+pub mod ReplyKinds
+pub mod Jobs

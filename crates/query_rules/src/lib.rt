@@ -10,5 +10,7 @@
 mod query;
 mod verb;
 
-pub use query::{Cause, LedgerTold, LedgerTrouble, Query, Reply, Said, Section, Spot, Total};
+pub use query::{
+    Account, Cause, LedgerAct, LedgerTold, LedgerTrouble, Query, Reply, Said, Section, Spot, Total,
+};
 pub use verb::Verb;
