@@ -109,11 +109,11 @@ push_step a more key n k true e gone ih =
     other : (c : Bool) → (key == k) ≡ c → (key == k) ≡ false
     other false f = f
     other true f = absurd (
-      let one : a.key ≡ k = grind (arith, e) in
-      let two : key ≡ k = grind (arith, f) in
-      let hit : (a.key == key) ≡ true = grind (arith, one, two) in
-      let bad : Some 0 ≡ None = sym (ap (λ c. cond c (Some 0) (next (place_of more key))) hit) ∙ gone in
-      cc)
+        let one : a.key ≡ k = grind (arith, e) in
+        let two : key ≡ k = grind (arith, f) in
+        let hit : (a.key == key) ≡ true = grind (arith, one, two) in
+        let bad : Some 0 ≡ None = sym (ap (λ c. cond c (Some 0) (next (place_of more key))) hit) ∙ gone in
+        cc)
 push_step a more key n k false e gone ih =
     let rest = ih (left (a.key == key) gone) in
     ap (λ c. cond c (Some 0) (next (place_of (more ++ record { key = key; balance = n } ∷ []) k))) e

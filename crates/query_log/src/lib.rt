@@ -15,8 +15,7 @@ mod plain;
 pub use job::{LedgerEntry, LedgerJob};
 pub use ledger::Ledger;
 pub use plain::PlainMaps;
-pub use query_rules::LedgerAct;
-pub use query_rules::{LedgerTold as LedgerOut, LedgerTrouble as LedgerFault};
+pub use query_rules::{LedgerAct, LedgerTold as LedgerOut, LedgerTrouble as LedgerFault};
 
 #[cfg(test)]
 mod tests;

@@ -54,12 +54,24 @@ fn numbers_are_added_compared_and_counted(rt: HostRuntime) -> Result<(), NoMemor
     let mut maps = PlainMaps::make(rt.alloc(), 1, 2)?;
     assert_eq!(rt; ask(&mut maps, Verb::Add, &[0, 1, 5])?, Said::Now(5));
     assert_eq!(rt; ask(&mut maps, Verb::Add, &[0, 1, u64::MAX])?, Said::Over);
-    assert_eq!(rt; ask(&mut maps, Verb::Add, &[0, 1, u64::MAX - 5])?, Said::Now(u64::MAX));
+    assert_eq!(rt;
+        ask(&mut maps, Verb::Add, &[0, 1, u64::MAX - 5])?,
+        Said::Now(u64::MAX)
+    );
     assert_eq!(rt; ask(&mut maps, Verb::Cas, &[0, 2, 0, 1])?, Said::Absent);
-    assert_eq!(rt; ask(&mut maps, Verb::Cas, &[0, 1, 5, 1])?, Said::No(u64::MAX));
+    assert_eq!(rt;
+        ask(&mut maps, Verb::Cas, &[0, 1, 5, 1])?,
+        Said::No(u64::MAX)
+    );
     assert_eq!(rt; ask(&mut maps, Verb::Cas, &[0, 1, u64::MAX, 6])?, Said::Yes);
-    assert_eq!(rt; ask(&mut maps, Verb::PutLen, &[0, 2, 6])?, Said::NewCount(2));
-    assert_eq!(rt; ask(&mut maps, Verb::PutLen, &[0, 1, 7])?, Said::OldCount(6, 2));
+    assert_eq!(rt;
+        ask(&mut maps, Verb::PutLen, &[0, 2, 6])?,
+        Said::NewCount(2)
+    );
+    assert_eq!(rt;
+        ask(&mut maps, Verb::PutLen, &[0, 1, 7])?,
+        Said::OldCount(6, 2)
+    );
     assert_eq!(rt; ask(&mut maps, Verb::PutLen, &[0, 3, 1])?, Said::Full);
     assert_eq!(rt; ask(&mut maps, Verb::Add, &[0, 3, 1])?, Said::Full);
     Ok(())
@@ -71,7 +83,10 @@ fn a_move_takes_from_one_cell_and_gives_to_another(rt: HostRuntime) -> Result<()
     assert_eq!(rt; ask(&mut maps, Verb::Put, &[0, 1, 5])?, Said::New);
     assert_eq!(rt; ask(&mut maps, Verb::Move, &[0, 1, 1, 9])?, Said::Short(5));
     assert_eq!(rt; ask(&mut maps, Verb::Move, &[0, 1, 1, 2])?, Said::Moved);
-    assert_eq!(rt; ask(&mut maps, Verb::Both, &[0, 1, 1])?, Said::Pair(Some(3), Some(2)));
+    assert_eq!(rt;
+        ask(&mut maps, Verb::Both, &[0, 1, 1])?,
+        Said::Pair(Some(3), Some(2))
+    );
     assert_eq!(rt; ask(&mut maps, Verb::Put, &[1, 1, u64::MAX])?, Said::Old(2));
     assert_eq!(rt; ask(&mut maps, Verb::Move, &[0, 1, 1, 1])?, Said::Over);
     assert_eq!(rt; ask(&mut maps, Verb::Del, &[1, 1])?, Said::Old(u64::MAX));
@@ -102,10 +117,25 @@ fn a_ledger_tells_every_result(rt: HostRuntime) -> Result<(), NoMemory> {
         (LedgerAct::Give { key: 1, n: 10 }, Ok(LedgerOut::Now(10))),
         (LedgerAct::Take { key: 1, n: 4 }, Ok(LedgerOut::Now(6))),
         (LedgerAct::Take { key: 1, n: 9 }, Err(LedgerFault::Short(6))),
-        (LedgerAct::Give { key: 1, n: u64::MAX }, Err(LedgerFault::Over)),
-        (LedgerAct::Give { key: 2, n: u64::MAX }, Ok(LedgerOut::Now(u64::MAX))),
+        (
+            LedgerAct::Give {
+                key: 1,
+                n: u64::MAX,
+            },
+            Err(LedgerFault::Over),
+        ),
+        (
+            LedgerAct::Give {
+                key: 2,
+                n: u64::MAX,
+            },
+            Ok(LedgerOut::Now(u64::MAX)),
+        ),
         (LedgerAct::Give { key: 3, n: 1 }, Err(LedgerFault::Full)),
-        (LedgerAct::Audit, Ok(LedgerOut::Sum(18_446_744_073_709_551_621))),
+        (
+            LedgerAct::Audit,
+            Ok(LedgerOut::Sum(18_446_744_073_709_551_621)),
+        ),
     ];
     for (act, result) in jobs.iter() {
         if 0 < ledger.room() {

@@ -25,7 +25,7 @@ invariant_of-self c =
     let finds : (k : ℕ) → get nat_eq c.insert.new.self k ≡ cond (nat_eq c.args.key k) (Some (length c.self.inside.accounts.items)) (get nat_eq c.self.inside.places k) = λ k. put.0 k ∙ ap (λ (n : ℕ). cond (nat_eq c.args.key k) (Some n) (get nat_eq c.self.inside.places k)) at_end in
     let pushed : c.push.new.self.items ≡ c.self.inside.accounts.items ++ record { key = c.args.key; balance = c.args.balance } ∷ [] = c.push.ensures.items ∙ ap (λ b. cond b (c.self.inside.accounts.items ++ record { key = c.args.key; balance = c.args.balance } ∷ []) c.self.inside.accounts.items) (c.is_err-2.ensures.negation ∙ ap not c.if-is_err-2.false) in
     kept_push c.self.inside.rows c.self.inside.accounts.items c.push.new.self.items (vec_capacity c.self.inside.accounts) (vec_capacity c.push.new.self) (get nat_eq c.self.inside.places) (get nat_eq c.insert.new.self) (spare c.self.inside.places) (spare c.insert.new.self) c.self.inside.sum c.args.key c.args.balance
-        c.self.invariant gone some small pushed c.push.ensures.capacity finds c.insert.ensures.spare
+    c.self.invariant gone some small pushed c.push.ensures.capacity finds c.insert.ensures.spare
 
 pub returns : goal.returns
 returns c =

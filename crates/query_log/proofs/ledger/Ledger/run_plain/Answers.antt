@@ -13,12 +13,11 @@ invariant_of-self c =
     let pushed : c.push.new.self.items ≡ c.self.inside.entries.items ++ e ∷ [] = c.push.ensures.items ∙ ap (λ b. cond b (c.self.inside.entries.items ++ e ∷ []) c.self.inside.entries.items) (c.is_err.ensures.negation ∙ ap not c.if-is_err.false) in
     let rows = ap (λ (b : Book). b.rows) c.run-result.ensures.accounts in
     let accounts = ap (λ (b : Book). b.accounts) c.run-result.ensures.accounts in
-    let len = ap (λ (l : List LedgerEntry). length l) pushed ∙ length_push c.self.inside.entries.items e in
-    (
+    let len = ap (λ (l : List LedgerEntry). length l) pushed ∙ length_push c.self.inside.entries.items e in (
       accounts
-      ∙ ap (λ (a : Accounts). accounts_of c.self.inside.book.rows a c.args.job.act) c.self.invariant.0
-      ∙ sym (made_push c.self.inside.book.rows c.self.inside.entries.items c.push.new.self.items e pushed)
-      ∙ ap (λ r. made_by r c.push.new.self.items) (sym rows),
+          ∙ ap (λ (a : Accounts). accounts_of c.self.inside.book.rows a c.args.job.act) c.self.invariant.0
+          ∙ sym (made_push c.self.inside.book.rows c.self.inside.entries.items c.push.new.self.items e pushed)
+          ∙ ap (λ r. made_by r c.push.new.self.items) (sym rows),
       (let room = c.self.invariant.1 in let more = c.push.ensures.capacity in let some = c.requires in let was = ap (λ (v : LedgerView). v.room) c.self.view_is in omega (arith, len, room, more, some, was)),
     )
 
