@@ -1,13 +1,21 @@
-//! The plain maps: a slow and simple program that computes what a script's map queries mean.
+//! One query: the plain maps and the plain ledger, slow and simple programs that compute what a
+//! script's queries mean.
 //!
-//! The maps are std's ordered maps, and the crate stands on `query_rules`, whose definition of a
-//! query's plain meaning is the contract of [`PlainMaps::ask`]. Every later body of the maps is
-//! compared with it.
+//! The maps are std's ordered maps. The ledger keeps its accounts, their places by key, and their
+//! sum. The crate stands on `query_rules`, whose definitions of a query's plain meaning are the
+//! contracts of [`PlainMaps::ask`] and [`Ledger::run_plain`]. Every later body of maps or ledger is
+//! compared with them.
 #![tactic(auto)]
 
+mod accounts;
+mod job;
+mod ledger;
 mod plain;
 
+pub use job::{LedgerEntry, LedgerJob};
+pub use ledger::Ledger;
 pub use plain::PlainMaps;
+pub use query_rules::{LedgerAct, LedgerTold as LedgerOut, LedgerTrouble as LedgerFault};
 
 #[cfg(test)]
 mod tests;

@@ -1,17 +1,22 @@
 -- The definitions at worked examples: each holds by computation.
-use Rattle.std.proofs.Common.{◌≡◌, ℕ, ◌-◌, ◌^◌, List, [], ◌∷◌, ◌++◌, Some, None, Ok, Err, refl, codes}
+use Rattle.std.proofs.Common.{◌≡◌, ℕ, List, [], ◌∷◌, ◌++◌, Some, None, Ok, Err, refl, codes}
 use Rattle.std.specs.declared.option.Option.{Option}
 use Rattle.query_rules.specs.declared.query.Query.{Query}
-use Rattle.query_rules.specs.declared.query.Query.TheVariants.{Get, Len, Put, Del, Add, Cas, PutLen, Move, Both, TryPut, Give}
+use Rattle.query_rules.specs.declared.query.Query.TheVariants.{Get, Put, Del, Add, Cas, PutLen, Move, Give}
 use Rattle.query_rules.specs.declared.query.Said.{Said}
-use Rattle.query_rules.specs.declared.query.Said.TheVariants.{Found, Absent, Count, New, Old, Full, Now, Over, Yes, No, NewCount, OldCount, Moved, Short, Same, Pair}
-use Rattle.query_rules.specs.Maps.{Maps, no_entries, reply_of, written}
+use Rattle.query_rules.specs.declared.query.Said.TheVariants.{Found, Absent, New, Old, Full, Now, Over, Yes, No, NewCount, OldCount, Moved, Short, Same}
+use Rattle.query_rules.specs.Maps.{no_entries, reply_of}
 use Rattle.query_rules.specs.History.{replay, place_of}
 use Rattle.std.specs.declared.result.Result.{Result}
 use Rattle.query_rules.specs.declared.query.Cause.{Cause}
 use Rattle.query_rules.specs.declared.query.Cause.TheVariants.{BadByte, Spacing, MissingCells, Unknown, WordCount, NotYet, NoCaller, BadNumber, CellRange}
 use Rattle.query_rules.specs.Words.{lines_of, words_of, number_of}
 use Rattle.query_rules.specs.Grammar.{Asked, said_by}
+use Rattle.query_rules.specs.declared.query.LedgerAct.{LedgerAct}
+use Rattle.query_rules.specs.declared.query.LedgerAct.TheVariants as job
+use Rattle.query_rules.specs.declared.query.LedgerTold.TheVariants as told
+use Rattle.query_rules.specs.declared.query.LedgerTrouble.TheVariants as trouble
+use Rattle.query_rules.specs.Ledger.{LedgerResult, no_accounts, result_of, run_all, ledger_after, act_of}
 
 -- what is said after these writes, the oldest first, to the query
 abbrev said_after : ℕ → List Query → Query → Option Said
@@ -164,3 +169,55 @@ missing = refl
 -- a second caller
 second_caller : third (codes "caller") ≡ Err (3, NotYet)
 second_caller = refl
+
+-- what a ledger with so many rows answers after these jobs, the oldest first
+abbrev ledger_says : ℕ → List LedgerAct → LedgerAct → LedgerResult
+ledger_says rows jobs act = result_of rows (run_all rows no_accounts jobs) act
+
+opened : ledger_says 1024 [] (job.Give 1 10) ≡ Ok (told.Now 10)
+opened = refl
+
+taken_of : ledger_says 1024 (job.Give 1 10 ∷ []) (job.Take 1 4) ≡ Ok (told.Now 6)
+taken_of = refl
+
+-- no account falls below zero, and the refusal leaves it
+short : ledger_says 1024 (job.Give 1 10 ∷ job.Take 1 4 ∷ []) (job.Take 1 9) ≡ Err (trouble.Short 6)
+short = refl
+
+sum_after_short : ledger_says 1024 (job.Give 1 10 ∷ job.Take 1 4 ∷ job.Take 1 9 ∷ []) job.Audit ≡ Ok (told.Sum 6)
+sum_after_short = refl
+
+too_much : ledger_says 1024 (job.Give 1 10 ∷ job.Take 1 4 ∷ job.Take 1 9 ∷ job.Audit ∷ []) (job.Give 1 18446744073709551615) ≡ Err trouble.Over
+too_much = refl
+
+-- an account that isn't there has 0, and is opened by a gift alone
+short_of_nothing : ledger_says 1 [] (job.Take 1 1) ≡ Err (trouble.Short 0)
+short_of_nothing = refl
+
+nothing_of_nothing : ledger_says 1 [] (job.Take 1 0) ≡ Ok (told.Now 0)
+nothing_of_nothing = refl
+
+not_opened : ledger_says 1 (job.Take 1 0 ∷ []) (job.Give 2 5) ≡ Ok (told.Now 5)
+not_opened = refl
+
+-- an account that holds nothing still takes its row
+no_account_more : ledger_says 1 (job.Give 2 5 ∷ job.Take 2 5 ∷ []) (job.Give 3 1) ≡ Err trouble.Full
+no_account_more = refl
+
+still_open : ledger_says 1 (job.Give 2 5 ∷ job.Take 2 5 ∷ []) (job.Give 2 1) ≡ Ok (told.Now 1)
+still_open = refl
+
+-- a sum isn't bounded as a balance is
+great_sum : ledger_says 1024 (job.Give 1 18446744073709551615 ∷ job.Give 2 18446744073709551615 ∷ []) job.Audit ≡ Ok (told.Sum 36893488147419103230)
+great_sum = refl
+
+-- both orders of telling tell one ledger
+two_orders : ledger_after 2 no_accounts (job.Take 1 4 ∷ job.Give 1 10 ∷ []) ≡ run_all 2 no_accounts (job.Give 1 10 ∷ job.Take 1 4 ∷ [])
+two_orders = refl
+
+-- the maps' queries are no jobs
+no_act : act_of (Get 0 1) ≡ None
+no_act = refl
+
+an_act : act_of (Give 1 1) ≡ Some (job.Give 1 1)
+an_act = refl

@@ -1,2 +1,4 @@
 mod Examples
 mod Numbers
+pub mod ReplyKinds
+pub mod Jobs

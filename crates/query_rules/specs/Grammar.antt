@@ -1,5 +1,5 @@
 -- What a text says: a script, or its first bad line with that line's first cause.
-use Rattle.std.specs.Prelude.{◌≡◌, ℕ, ◌+◌, ◌-◌, ◌<◌, ◌≤◌, ◌==◌, ◌&&◌, ◌||◌, not, Bool, List, [], ◌∷◌, ◌++◌, length, Some, None, Ok, Err, is_none, if◌then◌else◌, nat_lt, nat_le, bytes_eq, codes, sum_by, take, drop, slice_index, decimal, map, flat_map, unwrap_or, option_map, get_or, slice_set}
+use Rattle.std.specs.Prelude.{ℕ, ◌+◌, ◌-◌, ◌<◌, ◌≤◌, ◌==◌, ◌||◌, not, Bool, List, [], ◌∷◌, ◌++◌, length, Some, None, Ok, Err, is_none, if◌then◌else◌, nat_lt, nat_le, bytes_eq, codes, sum_by, take, drop, slice_index, decimal, map, flat_map, unwrap_or, option_map, get_or, slice_set}
 use Rattle.std.specs.declared.option.Option.{Option}
 use Rattle.std.specs.declared.result.Result.{Result}
 use Rattle.std.specs.List.{list_any, AllByRecursion}

@@ -1,4 +1,4 @@
--- One history of a script's queries: what is said to all of them is what one thread would say that changes plain maps.
+-- One history of a script's queries: what is said to all of them is what one thread would say that changes plain maps, and one that keeps a plain ledger.
 use Rattle.std.specs.Prelude.{◌≡◌, ℕ, ◌+◌, ◌*◌, ◌/◌, ◌%◌, ◌<◌, ◌≤◌, ◌==◌, Bool, true, false, IsTrue, IsFalse, List, [], ◌∷◌, ◌++◌, Some, Ok, Err, length, take, slice_get, zip, count_by, MatchBool, if◌then◌else◌}
 use Rattle.std.specs.declared.result.Result.{Result}
 use Rattle.std.specs.List.{AllByRecursion, AllZip}
@@ -13,6 +13,7 @@ use Rattle.query_rules.specs.declared.query.LedgerTrouble.TheVariants as trouble
 use Rattle.query_rules.specs.declared.query.Reply.{Reply}
 use Rattle.query_rules.specs.declared.query.Reply.TheVariants.{Placed, Busy, Late, Job}
 use Rattle.query_rules.specs.Maps.{Maps, no_entries, reply_of, is_write, written}
+use Rattle.query_rules.specs.Ledger.{no_accounts, IsLegalLedger}
 
 -- write number w stands at place 2w + 1, and a read after w writes at 2w
 abbrev pub place_of : ℕ → Said → ℕ
@@ -62,7 +63,7 @@ pub record IsLegal (rows : ℕ) (opening : Maps) (all : List (Query × Reply)) :
   pub stand : AllByRecursion (StandsAt rows opening writes) all
   pub once : (w : ℕ) → w < length writes → count_by (is_write_at w) all ≡ 1
 
--- a caller's later reply stands at no earlier place, and at a later one where one of the two is a write
+-- a caller's later reply stands at no earlier place, and at a later one where one of the two is a write; its later job has a later position
 abbrev pub Precedes : Reply → Reply → Type 0
 Precedes (Placed place said) (Placed later told) = (place ≤ later) × (1 ≤ place % 2 + later % 2 → place < later)
 Precedes (Placed place said) Busy = Unit {0}
@@ -70,7 +71,10 @@ Precedes (Placed place said) (Late now) = Unit {0}
 Precedes (Placed place said) (Job at result) = Unit {0}
 Precedes Busy reply = Unit {0}
 Precedes (Late now) reply = Unit {0}
-Precedes (Job at result) reply = Unit {0}
+Precedes (Job at result) (Placed place said) = Unit {0}
+Precedes (Job at result) Busy = Unit {0}
+Precedes (Job at result) (Late now) = Unit {0}
+Precedes (Job at result) (Job later more) = at < later
 
 abbrev pub InOrder : List Reply → Type 0
 InOrder [] = Unit {0}
@@ -200,3 +204,4 @@ pub record AnswersEachOnce (queries : List Query) (replies : List Reply) : Type 
 pub record IsHistory (rows : ℕ) (callers : List (List Query)) (told : List (List Reply)) : Type 0 where
   pub once : AllZip AnswersEachOnce callers told
   pub legal : IsLegal rows no_entries (entries callers told)
+  pub ledger : IsLegalLedger rows no_accounts (entries callers told)

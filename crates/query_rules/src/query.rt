@@ -1,4 +1,5 @@
 // Queries and replies.
+ghost use Rattle.std.specs.Prelude.{◌≡◌};
 
 /// A question of a caller. Cells, keys, values, deadlines and amounts are numbers of 64 bits.
 #[derive(Clone, Copy, Debug, PartialEq, Eq)]
@@ -93,6 +94,22 @@ pub enum Query {
     Audit,
 }
 
+impl Query {
+    ghost use Rattle.query_rules.specs.Ledger.{act_of};
+
+    /// What it asks of the ledger, where it doesn't ask the maps.
+    pub fn act(&self) -> Option<LedgerAct>
+        ensures { result ≡ act_of self.now }
+    {
+        match *self {
+            Query::Give { key, n } => Some(LedgerAct::Give { key, n }),
+            Query::Take { key, n } => Some(LedgerAct::Take { key, n }),
+            Query::Audit => Some(LedgerAct::Audit),
+            _ => None,
+        }
+    }
+}
+
 /// What the maps say to a query.
 #[derive(Clone, Copy, Debug, PartialEq, Eq)]
 pub enum Said {
@@ -128,6 +145,24 @@ pub enum Said {
     Same,
     /// The values of the key in the first cell and in the second.
     Pair(Option<u64>, Option<u64>),
+}
+
+/// An account of the ledger.
+#[derive(Clone, Copy, Debug, PartialEq, Eq)]
+pub struct Account {
+    pub key: u64,
+    pub balance: u64,
+}
+
+/// What a job does to the ledger.
+#[derive(Clone, Copy, Debug, PartialEq, Eq)]
+pub enum LedgerAct {
+    /// Adds to an account, which is opened where it isn't there.
+    Give { key: u64, n: u64 },
+    /// Takes from an account.
+    Take { key: u64, n: u64 },
+    /// Tells the sum of all accounts.
+    Audit,
 }
 
 /// What the ledger answers to a job.

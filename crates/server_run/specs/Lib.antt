@@ -1,3 +1,4 @@
 pub mod Alone
+pub mod Desks
 pub mod Serve
 pub mod Words

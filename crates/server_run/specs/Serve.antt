@@ -1,34 +1,28 @@
 -- What a run of the program has read and written, by its status.
-use Rattle.std.specs.Prelude.{◌≡◌, ℕ, ◌<◌, ◌≤◌, ◌⊎◌, List, [], ◌∷◌, ◌++◌, length, Ok, Err, Some, None, IfSome, if◌then◌else◌, nat_lt, not, Bool}
+use Rattle.std.specs.Prelude.{◌≡◌, ℕ, ◌<◌, ◌≤◌, ◌⊎◌, List, [], ◌∷◌, ◌++◌, length, Ok, Err, Some, None, IfSome, if◌then◌else◌, nat_lt}
 use Rattle.std.specs.declared.option.Option.{Option}
 use Rattle.std.specs.declared.result.Result.{Result}
-use Rattle.std.specs.List.{list_all}
 use Rattle.std.specs.Io.KnownBytes.{Appends, IsAtEnd}
 use Rattle.ql_base.specs.Bytes.{AppendsFront}
 use Rattle.ql_base.specs.Causes.{Rose}
-use Rattle.query_rules.specs.declared.query.Query.{Query}
 use Rattle.query_rules.specs.declared.query.Reply.{Reply}
 use Rattle.query_rules.specs.declared.query.Cause.{Cause}
 use Rattle.query_rules.specs.declared.query.Spot.{Spot}
 use Rattle.query_rules.specs.Grammar.{Asked, said_by}
-use Rattle.query_rules.specs.History.{IsHistory, asks_ledger}
+use Rattle.query_rules.specs.History.{IsHistory}
 use Rattle.query_rules.specs.Log.{IsOrder, log_text, refused_at, refused_length}
 
 -- the most bytes that a script may have
 abbrev pub limit : ℕ
 limit = 67108864
 
--- queries to the ledger aren't answered yet
-abbrev pub is_supported : List (List Query) → Bool
-is_supported callers = list_all (list_all (λ q. not (asks_ledger q))) callers
+abbrev pub script_in : Result Asked (ℕ × Cause) → Option Asked
+script_in (Ok s) = Some s
+script_in (Err fault) = None
 
-abbrev pub if_supported : Result Asked (ℕ × Cause) → Option Asked
-if_supported (Ok s) = if is_supported s.callers then Some s else None
-if_supported (Err fault) = None
-
--- the script that bytes ask, where they ask one whose queries are all answered
+-- the script that bytes ask, where they ask one
 abbrev pub script_of : List ℕ → Option Asked
-script_of bytes = if_supported (said_by bytes)
+script_of bytes = script_in (said_by bytes)
 
 -- where the source tells its bytes, all of them came, they aren't too many, and they ask this script
 pub record Reads (left left_new : Option (List ℕ)) (script : Asked) : Type 0 where
@@ -45,7 +39,7 @@ pub record IsLogOf (script : Asked) (rows : ℕ) (text : List ℕ) : Type 0 wher
   pub text_is : text ≡ log_text script rows told order
 
 -- Status 0: what was written is exactly the printed form of one history of the script that the bytes ask.
--- Each caller's queries stand in it once, in its order, with the replies of plain maps changed by one thread, and the totals count them.
+-- Each caller's queries stand in it once, in its order, with the replies of plain maps and of a plain ledger that one thread changes, and the totals count them.
 pub record WritesOneHistory (left left_new written written_new : Option (List ℕ)) (rows : ℕ) : Type 0 where
   pub script : Asked
   pub read : Reads left left_new script
@@ -69,7 +63,7 @@ abbrev pub fault_text : Result Asked (ℕ × Cause) → List ℕ
 fault_text (Ok s) = []
 fault_text (Err fault) = refused_at fault.0 fault.1
 
--- what is written of bytes that are refused: their length or their first bad line, and nothing of a script whose queries aren't all answered yet
+-- what is written of bytes that are refused: their length, or their first bad line with its cause
 abbrev pub refusal_of : List ℕ → List ℕ
 refusal_of bytes = if nat_lt limit (length bytes) then refused_length else fault_text (said_by bytes)
 

@@ -8,6 +8,7 @@
 //! form of one history, and every other status has its cause.
 #![tactic(auto)]
 
+mod desk;
 mod order;
 mod run;
 mod serve;

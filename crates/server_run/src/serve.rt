@@ -1,11 +1,9 @@
 // The top call.
-ghost use Rattle.std.specs.Prelude.{◌≡◌, ◌≢◌, ◌↔◌, ◌+◌, ◌<◌, ◌≤◌, ◌⊎◌, Some, None, IfOk, IfSome, IfErr, [], IsErrOf, OnOk, OnErr, IsTrue, IsSome, List, ℕ, not};
-ghost use Rattle.std.specs.List.{list_all};
+ghost use Rattle.std.specs.Prelude.{◌≡◌, ◌↔◌, ◌+◌, ◌⊎◌, Some, None, IfOk, IfSome, IfErr, IsErrOf, OnOk, IsSome, List, ℕ};
 ghost use Rattle.std.specs.Io.KnownBytes.{Appends};
 ghost use Rattle.ql_base.specs.Bytes.{AppendsFront, TakesUpTo};
 ghost use Rattle.ql_base.specs.Causes.{Rose};
-ghost use Rattle.query_rules.specs.History.{asks_ledger};
-ghost use Rattle.server_run.specs.Serve.{limit, is_supported, Reads, IsLogOf, WritesOneHistory, WritesFront, IsRefusalOf, WritesRefusal, WritesRefusalFront, Completes, Refuses};
+ghost use Rattle.server_run.specs.Serve.{limit, Reads, IsLogOf, WritesOneHistory, WritesFront, IsRefusalOf, WritesRefusal, WritesRefusalFront, Completes, Refuses};
 ghost use Rattle.query_text.specs.Refusals.{refusal_text};
 ghost use Rattle.query_text.specs.declared.refusal.Refusal.{Refusal};
 ghost use Rattle.server_run.specs.Words.{options_in};
@@ -14,9 +12,7 @@ use crate::order::order_of;
 use crate::run::run_script;
 use crate::{WordsFault, check_words};
 use ql_base::{Clocks, Gate, ReadFault, Sink, Source, read_to_end};
-use query_text::{
-    Callers, ParseFault, Query, Refusal, Script, parse_script, write_log, write_refusal,
-};
+use query_text::{ParseFault, Refusal, Script, parse_script, write_log, write_refusal};
 use std::alloc::Global;
 use std::sync::Wait;
 use std::thread::Threads;
@@ -41,8 +37,6 @@ const NO_MEMORY: u8 = 6;
 enum ScriptFault {
     Read,
     Refused(Refusal),
-    // The script asks the ledger, which isn't answered yet.
-    Unanswered,
     NoMemory,
 }
 
@@ -53,40 +47,10 @@ enum LogFault {
     NoMemory,
 }
 
-// Whether the ledger is asked, which isn't answered yet.
-fn asks_the_ledger(query: &Query) -> bool
-    ensures { result ≡ asks_ledger query.now }
-{
-    matches!(
-        query,
-        Query::Give { .. } | Query::Take { .. } | Query::Audit
-    )
-}
-
-fn all_answered(queries: &[Query]) -> bool
-    ensures { result ≡ list_all (λ q. not (asks_ledger q)) queries.now }
-{
-    queries.iter().all(|query| !asks_the_ledger(query))
-}
-
-// Whether all queries of a script are answered.
-fn is_answered(callers: &Callers) -> bool
-    ensures { result ≡ is_supported callers.now }
-{
-    for caller in 0..callers.count() {
-        if !all_answered(callers.queries(caller)) {
-            return false;
-        }
-    }
-    true
-}
-
 // Reads the source to its end, and the script that its bytes ask.
 fn read_script<S: Source>(alloc: Global, source: &mut S) -> Result<Script, ScriptFault>
     ensures read { IfOk result (λ script. Reads (S.left source.old) (S.left source.new) script) }
-    ensures answered { IfOk result (λ script. IsTrue (is_supported script.callers)) }
     ensures refused { IfErr result (λ e. (r : Refusal) → e ≡ ScriptFault.Refused r → IfSome (S.left source.old) (IsRefusalOf (refusal_text r))) }
-    ensures unanswered { IsErrOf result ScriptFault.Unanswered → IfSome (S.left source.old) (IsRefusalOf []) }
     ensures fault { IsErrOf result ScriptFault.Read → Rose (S.faults source.old) (S.faults source.new) }
     ensures counted { TakesUpTo (S.left source.old) (S.left source.new) (limit + 1) }
 {
@@ -97,8 +61,7 @@ fn read_script<S: Source>(alloc: Global, source: &mut S) -> Result<Script, Scrip
         Err(ReadFault::NoMemory) => return Err(ScriptFault::NoMemory),
     };
     match parse_script(alloc, &bytes) {
-        Ok(script) if is_answered(script.callers()) => Ok(script),
-        Ok(_) => Err(ScriptFault::Unanswered),
+        Ok(script) => Ok(script),
         Err(ParseFault::Refused { line, cause }) => {
             Err(ScriptFault::Refused(Refusal::Line { line, cause }))
         }
@@ -114,7 +77,6 @@ fn answer<K: Sink, G: Gate>(
     sink: &mut K,
     gate: &G,
 ) -> Result<(), LogFault>
-    requires answered { IsTrue (is_supported script.now.callers) }
     ensures written { OnOk result ((text : List ℕ) × IsLogOf script.now rows text × Appends (K.written sink.old) (K.written sink.new) text) }
     ensures cut { IsErrOf result LogFault.Write → (text : List ℕ) × IsLogOf script.now rows text × AppendsFront (K.written sink.old) (K.written sink.new) text }
     ensures fault { IsErrOf result LogFault.Write → Rose (K.faults sink.old) (K.faults sink.new) }
@@ -193,7 +155,6 @@ pub fn serve_main<R: Threads + Wait + Sync, S: Source, K: Sink, T: Clocks, G: Ga
         Ok(script) => script,
         Err(ScriptFault::Read) => return READ_FAULT,
         Err(ScriptFault::Refused(refusal)) => return refuse(sink, refusal),
-        Err(ScriptFault::Unanswered) => return REFUSED,
         Err(ScriptFault::NoMemory) => return NO_MEMORY,
     };
     match answer(alloc, &script, options.rows, sink, gate) {

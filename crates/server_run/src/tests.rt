@@ -86,11 +86,20 @@ fn a_refused_input_is_told(rt: HostRuntime) -> Result<(), AllocError> {
 }
 
 #[test]
-fn unanswered_queries_and_wrong_words_write_nothing(rt: HostRuntime) -> Result<(), AllocError> {
+fn the_ledger_keeps_its_balances(rt: HostRuntime) -> Result<(), AllocError> {
     let words = vec![in rt.alloc(); String::from_str(rt.alloc(), "run")?]?;
-    let (status, written) = run(&rt, &words, b"cells 1\ncaller\naudit\n", &[], &[])?;
-    assert_eq!(rt; status, 3);
-    assert!(rt; written.is_empty());
+    let script =
+        b"cells 1\ncaller\ngive 1 10\ntake 1 4\ntake 1 9\naudit\ngive 1 18446744073709551615\n";
+    let (status, written) = run(&rt, &words, script, &[], &[])?;
+    assert_eq!(rt; status, 0);
+    let log =
+        b"querylog 1\ncells 1 rows 1024 callers 1\njob 0 0 0 give 1 10 = now 10\njob 1 0 1 take 1 4 = now 6\njob 2 0 2 take 1 9 = err short 6\njob 3 0 3 audit = sum 6\njob 4 0 4 give 1 18446744073709551615 = err over\nqueries 5\nwrites 0\nreads 0\nrefused 0\njobs 5\nend\n";
+    assert_eq!(rt; written.as_slice(), log.as_slice());
+    Ok(())
+}
+
+#[test]
+fn wrong_words_write_nothing(rt: HostRuntime) -> Result<(), AllocError> {
     let none: Vec<String> = Vec::new(rt.alloc());
     let (status, written) = run(&rt, &none, b"cells 1\n", &[], &[])?;
     assert_eq!(rt; status, 2);
