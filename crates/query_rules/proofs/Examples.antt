@@ -1,11 +1,11 @@
 -- The definitions at worked examples: each holds by computation.
-use Rattle.std.proofs.Common.{◌≡◌, ℕ, ◌-◌, ◌^◌, List, [], ◌∷◌, ◌++◌, Some, None, Ok, Err, refl, codes}
+use Rattle.std.proofs.Common.{◌≡◌, ℕ, List, [], ◌∷◌, ◌++◌, Some, None, Ok, Err, refl, codes}
 use Rattle.std.specs.declared.option.Option.{Option}
 use Rattle.query_rules.specs.declared.query.Query.{Query}
-use Rattle.query_rules.specs.declared.query.Query.TheVariants.{Get, Len, Put, Del, Add, Cas, PutLen, Move, Both, TryPut, Give}
+use Rattle.query_rules.specs.declared.query.Query.TheVariants.{Get, Put, Del, Add, Cas, PutLen, Move, Give}
 use Rattle.query_rules.specs.declared.query.Said.{Said}
-use Rattle.query_rules.specs.declared.query.Said.TheVariants.{Found, Absent, Count, New, Old, Full, Now, Over, Yes, No, NewCount, OldCount, Moved, Short, Same, Pair}
-use Rattle.query_rules.specs.Maps.{Maps, no_entries, reply_of, written}
+use Rattle.query_rules.specs.declared.query.Said.TheVariants.{Found, Absent, New, Old, Full, Now, Over, Yes, No, NewCount, OldCount, Moved, Short, Same}
+use Rattle.query_rules.specs.Maps.{no_entries, reply_of}
 use Rattle.query_rules.specs.History.{replay, place_of}
 use Rattle.std.specs.declared.result.Result.{Result}
 use Rattle.query_rules.specs.declared.query.Cause.{Cause}

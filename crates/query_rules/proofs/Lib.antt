@@ -1,1 +1,4 @@
 mod Examples
+pub mod Kept
+pub mod Spelled
+pub mod Table

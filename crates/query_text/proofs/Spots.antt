@@ -21,13 +21,8 @@ use Rattle.query_rules.specs.declared.query.Section.TheVariants.{Maps}
 use Rattle.query_rules.specs.declared.query.Spot.{Spot}
 use Rattle.query_rules.specs.declared.query.Total.TheVariants as total
 use Rattle.query_rules.specs.History.{IsKindFor}
+use Rattle.query_text.proofs.Tallies.{one_if, count_cons}
 use Rattle.query_rules.specs.Log.{key_in, spots_with, spots_from, spots_of, is_counted, total_of, placed_count, refused_line, refused_from, refused_of, IsSpot, IsOrder, IsOrderOf}
-
-abbrev one_if : Bool → ℕ
-one_if b = cond b 1 0
-
-count_cons : (p : Reply → Bool) (x : Reply) (xs : List Reply) → count_by p (x ∷ xs) ≡ one_if (p x) + count_by p xs
-count_cons p x xs = sum_by-cons (λ (y : Reply). one_if (p y)) x xs
 
 parity : (place : ℕ) → one_if (place % 2 == 1) + one_if (place % 2 == 0) ≡ 1
 parity place = grind arith

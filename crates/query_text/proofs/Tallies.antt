@@ -8,10 +8,10 @@ use Rattle.query_rules.specs.declared.query.Total.{Total}
 use Rattle.query_rules.specs.declared.query.Total.TheVariants.{Queries}
 use Rattle.query_rules.specs.Log.{is_counted, total_of}
 
-abbrev one_if : Bool → ℕ
+abbrev pub one_if : Bool → ℕ
 one_if b = cond b 1 0
 
-count_cons : (p : Reply → Bool) (x : Reply) (xs : List Reply) → count_by p (x ∷ xs) ≡ one_if (p x) + count_by p xs
+pub count_cons : (p : Reply → Bool) (x : Reply) (xs : List Reply) → count_by p (x ∷ xs) ≡ one_if (p x) + count_by p xs
 count_cons p x xs = sum_by-cons (λ (y : Reply). one_if (p y)) x xs
 
 -- one reply
