@@ -1,5 +1,5 @@
 -- Lists of lists, kept as a vector of vectors.
-use Rattle.std.proofs.Common.{◌≡◌, ℕ, ◌+◌, ◌-◌, ◌<◌, ◌≤◌, ◌^◌, min, take, sum_by, arith, append-nil, length-append, List, [], ◌∷◌, ◌++◌, length, map, get_or, set, refl, sym, ap, ◌∙◌, Vec}
+use Rattle.std.proofs.Common.{◌≡◌, ℕ, ◌+◌, ◌-◌, ◌<◌, ◌≤◌, ◌^◌, min, take, sum_by, arith, append-nil, length-append, List, [], ◌∷◌, ◌++◌, length, map, get_or, set, sym, ap, ◌∙◌, Vec}
 use Rattle.std.proofs.lemmas.List.{map-set, length-map, get_or-map, take_all}
 use Rattle.std.proofs.lemmas.List.Sums.{sum_by-set}
 use Rattle.std.proofs.Math.Seq.{map-set_same, take-append_seam}

@@ -1,7 +1,6 @@
 -- The lines of a script, one at a time and by six words.
-use Rattle.std.proofs.Common.{◌≡◌, ℕ, ◌+◌, ◌<◌, ◌==◌, ◌||◌, not, Bool, true, false, cond, List, [], ◌∷◌, ◌++◌, length, take, drop, Option, Some, None, Result, Ok, Err, unwrap_or, refl, sym, ap, ◌∙◌, arith, codes, bytes_eq}
+use Rattle.std.proofs.Common.{◌≡◌, ℕ, ◌+◌, ◌<◌, ◌==◌, not, Bool, true, false, cond, List, [], ◌∷◌, ◌++◌, length, take, drop, Option, Some, None, Result, Ok, Err, unwrap_or, refl, sym, ap, ◌∙◌, arith, codes, bytes_eq}
 use Rattle.std.proofs.lemmas.List.{take_all, length-take}
-use Rattle.query_rules.specs.declared.query.Query.{Query}
 use Rattle.query_rules.specs.declared.query.Cause.{Cause}
 use Rattle.query_rules.specs.declared.query.Cause.TheVariants.{BadByte, Spacing, Unknown, WordCount}
 use Rattle.query_rules.specs.declared.verb.Verb.{Verb}

@@ -1,8 +1,8 @@
 -- The spots of a log's lines: how many there are, and that each has a query and a reply.
-use Rattle.std.proofs.Common.{◌≡◌, ℕ, zero, suc, ◌+◌, ◌-◌, ◌≤◌, ◌<◌, ◌%◌, ◌==◌, min, Bool, cond, List, [], ◌∷◌, ◌++◌, length, take, drop, get_or, refl, sym, ap, ◌∙◌, subst, arith, sum_by, count_by, length-append, Some, None, Option}
+use Rattle.std.proofs.Common.{◌≡◌, ℕ, zero, suc, ◌+◌, ◌-◌, ◌≤◌, ◌<◌, ◌%◌, ◌==◌, List, [], ◌∷◌, ◌++◌, length, take, drop, get_or, refl, sym, ap, ◌∙◌, subst, arith, sum_by, count_by, length-append, Some, None, Option}
 use Rattle.std.proofs.Math.Seq.{drop-cons}
 use Rattle.std.proofs.Math.Numerals.{add-one}
-use Rattle.std.specs.Prelude.{IsPermutation, IsErr}
+use Rattle.std.specs.Prelude.{IsErr}
 use Rattle.std.specs.declared.result.Result.{Result}
 use Rattle.std.specs.Io.KnownBytes.{Appends}
 use Rattle.ql_base.specs.Bytes.{AppendsFront, Writes}
@@ -22,7 +22,7 @@ use Rattle.query_rules.specs.declared.query.Spot.{Spot}
 use Rattle.query_rules.specs.declared.query.Total.TheVariants as total
 use Rattle.query_rules.specs.History.{IsKindFor}
 use Rattle.query_text.proofs.Tallies.{one_if, count_cons}
-use Rattle.query_rules.specs.Log.{key_in, spots_with, spots_from, spots_of, is_counted, total_of, placed_count, refused_line, refused_from, refused_of, IsSpot, IsOrder, IsOrderOf}
+use Rattle.query_rules.specs.Log.{key_in, spots_with, spots_from, spots_of, is_counted, placed_count, refused_line, refused_from, refused_of, IsSpot, IsOrder, IsOrderOf}
 
 parity : (place : ℕ) → one_if (place % 2 == 1) + one_if (place % 2 == 0) ≡ 1
 parity place = grind arith
