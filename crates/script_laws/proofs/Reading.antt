@@ -9,11 +9,11 @@ use Rattle.query_rules.specs.declared.query.Cause.{Cause}
 use Rattle.query_rules.specs.declared.query.Cause.TheVariants.{BadByte, Spacing, MissingCells, WordCount, NotYet, NoCaller, BadNumber, CellRange, TooManyQueries}
 use Rattle.query_rules.specs.Verbs.{arity, cells_in, query_of, verb_of, numbers_of, query_words}
 use Rattle.query_rules.specs.Words.{words_of, lines_of}
-use Rattle.query_rules.specs.Grammar.{Asked, TakesBelow, first_cause, gives, with_query, named_line, later_words, later_lines, spelled_line, cells_line, all_lines, script_lines, is_misspaced}
+use Rattle.query_rules.specs.Grammar.{Asked, TakesBelow, first_cause, gives, with_query, named_line, later_words, later_lines, spelled_line, cells_line, all_lines, said_by, script_lines, is_misspaced}
 use Rattle.query_rules.proofs.Kept.{NonePasses, last_query}
 use Rattle.query_rules.proofs.Spelled.{Lacks, spaced, between_spaces, words_again, words_to_numbers, lines_again, lines_unended, text_ended}
 use Rattle.query_rules.proofs.Table.{named_again, numbers_count, query_again}
-use Rattle.script_laws.specs.Spelling.{FitsWords, IsWritable, Spells, SpellingIsRead}
+use Rattle.script_laws.specs.Spelling.{FitsWords, IsWritable, Spells, SpellingIsRead, OneScript}
 use Rattle.script_laws.proofs.Shown.{IsPlain, cells_plain, caller_plain, query_plain, words_lack_spaces, not_misspaced, line_good, line_unbroken}
 
 abbrev asked : ℕ → List (List Query) → Asked
@@ -157,3 +157,9 @@ lines_again_of s bytes is (inr e) =
 
 pub spelling_read : SpellingIsRead
 spelling_read s bytes is spells = ap all_lines (lines_again_of s bytes is spells) ∙ lines_read s is
+
+one_answer : (s t : Asked) (answer : Result Asked (ℕ × Cause)) → answer ≡ Ok s → answer ≡ Ok t → s ≡ t
+one_answer s t answer is_s is_t = cc
+
+pub one_script : OneScript
+one_script s t bytes is_s is_t spells_s spells_t = one_answer s t (said_by bytes) (spelling_read s bytes is_s spells_s) (spelling_read t bytes is_t spells_t)

@@ -29,3 +29,7 @@ SpellingIsRead = (s : Asked) (bytes : List ℕ) → IsWritable s → Spells byte
 -- and nothing else does
 abbrev pub ReadIsSpelled : Type 0
 ReadIsSpelled = (s : Asked) (bytes : List ℕ) → said_by bytes ≡ Ok s → IsWritable s × Spells bytes s
+
+-- no text says two scripts
+abbrev pub OneScript : Type 0
+OneScript = (s t : Asked) (bytes : List ℕ) → IsWritable s → IsWritable t → Spells bytes s → Spells bytes t → s ≡ t

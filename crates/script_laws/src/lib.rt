@@ -8,7 +8,7 @@
 //! Each law is the contract of a function that does nothing.
 #![tactic(auto)]
 
-ghost use Rattle.script_laws.specs.Spelling.{SpellingIsRead, ReadIsSpelled};
+ghost use Rattle.script_laws.specs.Spelling.{SpellingIsRead, ReadIsSpelled, OneScript};
 
 /// A script's spelling is read as this script, with its last line feed and without it.
 pub fn spelling_is_read()
@@ -19,4 +19,9 @@ pub fn spelling_is_read()
 /// script meets.
 pub fn what_is_read_is_spelled()
     ensures { ReadIsSpelled }
+{}
+
+/// No text spells two scripts.
+pub fn a_text_spells_one_script()
+    ensures { OneScript }
 {}
