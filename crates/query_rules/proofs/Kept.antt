@@ -38,7 +38,7 @@ pub spelled_ok : (says : List (List ℕ) → Result Asked Cause) (line : List �
 spelled_ok says line t e = spelled_cases _ _ (says (words_of line)) t e
 
 -- line 1
-pub cells_keep : (words : List (List ℕ)) (t : Asked) → cells_line words ≡ Ok t → IsScript t
+cells_keep : (words : List (List ℕ)) (t : Asked) → cells_line words ≡ Ok t → IsScript t
 cells_keep words t e =
     let cells : ℕ = slice_index (unwrap_or (numbers_in (drop 1 words)) []) 0 in
     let r = given_ok (cells_causes words) (record { cells = cells; callers = [] }) t e in
@@ -75,7 +75,7 @@ last_query front last q =
     ∙ ap (λ l. set lists (length front) (l ++ q ∷ [])) (get_or-append_seam front last [] [])
     ∙ set-append_seam front last [] (last ++ q ∷ [])
 
-abbrev asked : ℕ → List (List Query) → Asked
+abbrev pub asked : ℕ → List (List Query) → Asked
 asked cells callers = record { cells = cells; callers = callers }
 
 -- a line `caller`

@@ -25,7 +25,7 @@ pub view_same : (vs : List (Vec Query Global)) (i : ℕ) (old new : Vec Query Gl
 view_same vs i old new is same = map-set_same (λ (v : Vec Query Global). v.items) vs i new old (same ∙ ap (λ v. v.items) is)
 
 -- one query more
-pub total_more : (lists : List (List Query)) (q : Query) → 0 < length lists → sum_by length (with_query lists q) ≡ sum_by length lists + 1
+total_more : (lists : List (List Query)) (q : Query) → 0 < length lists → sum_by length (with_query lists q) ≡ sum_by length lists + 1
 total_more lists q some =
     let at : List Query = get_or lists (length lists - 1) [] in
     let sums = sum_by-set (length {A = Query}) lists (length lists - 1) (at ++ q ∷ []) [] (omega (arith, some)) in

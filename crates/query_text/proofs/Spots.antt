@@ -148,14 +148,14 @@ order_spots section asked told order is in_order =
     recursion_from_All (IsSpot asked told) order (All-permutation (IsSpot asked told) (spots_of section 0 told) order in_order.each (All-from_recursion (IsSpot asked told) (spots_of section 0 told) all))
 
 -- the lines of refusals, one reply and one caller at a time
-pub refused_cut : (caller i : ℕ) (queries : List Query) (replies : List Reply) (q : Query) (r : Reply) → i < length queries → i < length replies
+refused_cut : (caller i : ℕ) (queries : List Query) (replies : List Reply) (q : Query) (r : Reply) → i < length queries → i < length replies
     → refused_from caller i (drop i queries) (drop i replies) ≡ refused_line caller i (get_or queries i q) (get_or replies i r) ++ refused_from caller (i + 1) (drop (i + 1) queries) (drop (i + 1) replies)
 refused_cut caller i queries replies q r asks tells =
     ap (λ qs. refused_from caller i qs (drop i replies)) (drop-cons queries i q asks)
     ∙ ap (λ rs. refused_from caller i (get_or queries i q ∷ drop (suc i) queries) rs) (drop-cons replies i r tells)
     ∙ ap (λ n. refused_line caller i (get_or queries i q) (get_or replies i r) ++ refused_from caller (i + 1) (drop n queries) (drop n replies)) (sym (add-one i))
 
-pub refused_of_cut : (i : ℕ) (asked : List (List Query)) (told : List (List Reply)) → i < length asked → i < length told
+refused_of_cut : (i : ℕ) (asked : List (List Query)) (told : List (List Reply)) → i < length asked → i < length told
     → refused_of i (drop i asked) (drop i told) ≡ refused_from i 0 (get_or asked i []) (get_or told i []) ++ refused_of (i + 1) (drop (i + 1) asked) (drop (i + 1) told)
 refused_of_cut i asked told asks tells =
     ap (λ qs. refused_of i qs (drop i told)) (drop-cons asked i [] asks)

@@ -10,14 +10,11 @@ use Rattle.query_rules.specs.declared.query.Cause.TheVariants.{BadByte, Spacing,
 use Rattle.query_rules.specs.Verbs.{arity, cells_in, query_of, verb_of, numbers_of, query_words}
 use Rattle.query_rules.specs.Words.{words_of, lines_of}
 use Rattle.query_rules.specs.Grammar.{Asked, TakesBelow, first_cause, gives, with_query, named_line, later_words, later_lines, spelled_line, cells_line, all_lines, said_by, script_lines, is_misspaced}
-use Rattle.query_rules.proofs.Kept.{NonePasses, last_query}
+use Rattle.query_rules.proofs.Kept.{NonePasses, asked, last_query}
 use Rattle.query_rules.proofs.Spelled.{Lacks, spaced, between_spaces, words_again, words_to_numbers, lines_again, lines_unended, text_ended}
 use Rattle.query_rules.proofs.Table.{named_again, numbers_count, query_again}
 use Rattle.script_laws.specs.Spelling.{FitsWords, IsWritable, Spells, SpellingIsRead, OneScript}
 use Rattle.script_laws.proofs.Shown.{IsPlain, cells_plain, caller_plain, query_plain, words_lack_spaces, not_misspaced, line_good, line_unbroken}
-
-abbrev asked : ℕ → List (List Query) → Asked
-asked cells callers = record { cells = cells; callers = callers }
 
 -- where no test finds its cause, the value is given
 all_pass : {A : Type 0} (tests : List (Bool × Cause)) (x : A) → NonePasses tests → gives (first_cause tests) x ≡ Ok x
@@ -92,7 +89,7 @@ queries_read cells done had (q ∷ queries) n rest t below fits few follows =
     ∙ queries_read cells done (had ++ q ∷ []) queries (n + 1) rest t below.1 fits.1 (omega (arith, few, more))
     (λ m. ap (λ l. later_lines (asked cells (done ++ l ∷ [])) m rest) (append_assoc had (q ∷ []) queries) ∙ follows m)
 
-abbrev caller_lines : List Query → List (List (List ℕ))
+abbrev pub caller_lines : List Query → List (List (List ℕ))
 caller_lines queries = (codes "caller" ∷ []) ∷ map query_words queries
 
 -- the callers behind those that are read

@@ -32,10 +32,10 @@ dark_by_test (b ∷ word) e =
     let q = or_parts (nat_lt b 33) (nat_lt 126 b) p.0 in
     ((grind (arith, q.0), grind (arith, q.1)), dark_by_test word p.1)
 
-pub name_plain : (word : List ℕ) → 0 < length word → list_any is_light word ≡ false → IsPlain word
+name_plain : (word : List ℕ) → 0 < length word → list_any is_light word ≡ false → IsPlain word
 name_plain word some e = (some, dark_by_test word e)
 
-pub verb_plain : (verb : Verb) → IsPlain (verb_word verb)
+verb_plain : (verb : Verb) → IsPlain (verb_word verb)
 verb_plain Get = name_plain (codes "get") (omega arith) refl
 verb_plain Len = name_plain (codes "len") (omega arith) refl
 verb_plain Put = name_plain (codes "put") (omega arith) refl

@@ -11,16 +11,11 @@ use Rattle.query_rules.specs.declared.verb.Verb.{Verb}
 use Rattle.query_rules.specs.Verbs.{arity, verb_named, verb_word, query_of, verb_of, numbers_of, query_words}
 use Rattle.query_rules.specs.Words.{words_of, lines_of, text_of}
 use Rattle.query_rules.specs.Grammar.{Asked, numbers_in, with_query, word_at, cells_causes, caller_causes, query_causes, caller_line, query_line, named_line, later_words, later_line, later_lines, spelled_line, cells_line, all_lines, script_lines}
-use Rattle.query_rules.proofs.Kept.{given_ok, spelled_ok, first_keeps, later_keeps, last_split, last_query, all_push, all_parts, some_is, numbers_len, words_left}
+use Rattle.query_rules.proofs.Kept.{asked, given_ok, spelled_ok, first_keeps, later_keeps, last_split, last_query, all_push, all_parts, some_is, numbers_len, words_left}
 use Rattle.query_rules.proofs.Spelled.{Fit, ended, numbers_to_words, line_ended, words_joined, lines_joined}
 use Rattle.query_rules.proofs.Table.{named_only, same_bytes, verb_again, numbers_again}
+use Rattle.script_laws.proofs.Reading.{caller_lines}
 use Rattle.script_laws.specs.Spelling.{FitsWords, IsWritable, spelling, ReadIsSpelled}
-
-abbrev asked : ℕ → List (List Query) → Asked
-asked cells callers = record { cells = cells; callers = callers }
-
-abbrev caller_lines : List Query → List (List (List ℕ))
-caller_lines queries = (codes "caller" ∷ []) ∷ map query_words queries
 
 abbrev AllFit : List (List Query) → Type 0
 AllFit callers = AllByRecursion (AllByRecursion FitsWords) callers
