@@ -1,4 +1,7 @@
 mod Examples
+pub mod Kept
 mod Numbers
-pub mod ReplyKinds
 pub mod Jobs
+pub mod ReplyKinds
+pub mod Spelled
+pub mod Table
