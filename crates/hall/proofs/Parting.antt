@@ -104,8 +104,7 @@ module _ {C P : Type 0} (g : Ghosts C P) (v : View P) (lives : 0 < v.span) where
   pub join_keeps : (w : View P) → 0 < w.span → ((lock : ℕ) → standing w lock ≡ Away) → g.rested w.part → (plan : Plan C) (id other : ℕ) → JoinKeeps g plan id other v w (joined_view (g.joined v.part w.part) v w)
   join_keeps w lives' off calm plan id other s h at there ne =
       let both : View P = joined_view (g.joined v.part w.part) v w in
-      let still : get_elem? (set s.views id both) other ≡ some w = set_else s.views id other both ne ∙ there in
-      (
+      let still : get_elem? (set s.views id both) other ≡ some w = set_else s.views id other both ne ∙ there in (
         joins g plan s h id other v w at ne there lives lives' off calm,
         λ lock seat. role_spent (set s.views id both) other lock seat w (spent_view g.spent) still lives' (off lock) refl
             (λ j u e far living. ⊎_elim
