@@ -1,12 +1,11 @@
 -- A split and a join move nothing at the abstract locks that the views show.
-use Rattle.std.proofs.Common.{◌≡◌, ℕ, zero, suc, ◌+◌, ◌-◌, ◌<◌, ◌≤◌, ◌≢◌, ◌==◌, if◌then◌else◌, List, [], ◌∷◌, ◌++◌, set, Bool, true, false, ne_eqb, eq-eqb, sym, refl, ap, ◌∙◌, subst, ⊎_elim, arith}
+use Rattle.std.proofs.Common.{◌≡◌, ℕ, zero, suc, ◌<◌, ◌≤◌, ◌≢◌, ◌==◌, if◌then◌else◌, List, [], ◌∷◌, ◌++◌, set, Bool, true, false, ne_eqb, eq-eqb, sym, refl, ap, ◌∙◌, subst, ⊎_elim, arith}
 use mathlib.Core.Logic.{dite}
 use mathlib.Core.Option.{some, some-injective, some-ne-none}
 use native.Mathlib.Decide.{ℕ_discrete}
 use Rattle.std.proofs.Math.Decide.{dec_lt}
 use lib.ListN.{get_elem?}
-use Rattle.atomic_table.specs.Table.{State, Me, keeps, Allows}
-use Rattle.atomic_table.proofs.Lists.{at_set, set_again, set_else}
+use Rattle.atomic_table.proofs.Lists.{at_set, set_else}
 use Rattle.lock_model.specs.declared.model.Role.{Role}
 use Rattle.lock_model.specs.declared.model.Role.TheVariants.{Outside}
 use Rattle.lock_model.specs.declared.model.SeatRole.{SeatRole}
@@ -18,9 +17,8 @@ use Rattle.hall.specs.declared.view.Standing.TheVariants.{Away}
 use Rattle.hall.specs.Moves.{role_of, shown}
 use Rattle.hall.specs.ShownLaws.{Alone, entry, shown_spent, shown_living}
 use Rattle.hall.specs.NumberLaws.{numbers_differ}
-use Rattle.hall.specs.Rule.{Holds}
 use Rattle.hall.specs.Views.{standing, split_left, split_right, joined_view, spent_view}
-use Rattle.hall.specs.Partings.{after_split, after_join, NothingMoves, Met, SplitMoment, SplitKeeps, JoinKeeps}
+use Rattle.hall.specs.Partings.{Met, SplitMoment, SplitKeeps, JoinKeeps}
 use Rattle.hall.proofs.Dividing.{away_in, splits, joins}
 
 -- a seat that is outside may stand in the list or not
