@@ -7,6 +7,7 @@ use crate::owner::Next;
 use crate::pass::DistPass;
 use combine_job::job::{Job, Room};
 use combine_job::once::OnceJob;
+use ql_base::{Clock, ListClock};
 use std::sync::Wait;
 use std::test::Fail;
 use std::thread;
@@ -215,5 +216,50 @@ fn an_owner_runs_jobs_at_rising_positions(rt: HostRuntime) -> Result<(), Fail> {
         Some(kept) => assert!(rt; kept.ran == 3 && kept.value.balance == 10),
         None => panic!(rt; "the value is lost"),
     }
+    Ok(())
+}
+
+#[test]
+fn a_free_lock_is_taken_past_the_deadline_too(rt: HostRuntime) -> Result<(), Fail> {
+    let (bank, mut pass) = Bank::make(rt.alloc(), 1, 0, 0, an_account(0))?;
+    let mut clock = ListClock::new(vec![in rt.alloc(); 7, 8]?);
+    match bank.lock_until(&rt, &mut pass, &mut clock, 0) {
+        Ok(owner) => {
+            let _released = bank.unlock(&mut pass, owner);
+        }
+        Err(_late) => panic!(rt; "the lock was taken"),
+    }
+    assert_eq!(rt; clock.now(), 7, "the clock was asked");
+    let (kept, _retired) = bank.close(pass);
+    assert!(rt; kept.is_some());
+    Ok(())
+}
+
+#[test]
+fn an_owned_lock_is_late_at_the_deadline(rt: HostRuntime) -> Result<(), Fail> {
+    let (bank, mut zero) = Bank::make(rt.alloc(), 2, 0, 0, an_account(0))?;
+    let mut one = bank.split(&mut zero, 1, 0);
+    let owner = match bank.try_lock(&mut zero) {
+        Ok(owner) => owner,
+        Err(_busy) => panic!(rt; "the lock was taken"),
+    };
+    let mut clock = ListClock::new(vec![in rt.alloc(); 0, 3, 5, 6]?);
+    match bank.lock_until(&rt, &mut one, &mut clock, 5) {
+        Ok(_owner) => panic!(rt; "two owners"),
+        Err(late) => {
+            assert!(rt; late.now == 5 && late.deadline == 5 && late.fault.word == 1);
+        }
+    }
+    assert_eq!(rt; clock.now(), 6, "the clock was asked after the deadline");
+    let _released = bank.unlock(&mut zero, owner);
+    match bank.lock_until(&rt, &mut one, &mut clock, 5) {
+        Ok(owner) => {
+            let _released = bank.unlock(&mut one, owner);
+        }
+        Err(_late) => panic!(rt; "the lock is not free"),
+    }
+    bank.join(&mut zero, one);
+    let (kept, _retired) = bank.close(zero);
+    assert!(rt; kept.is_some());
     Ok(())
 }
