@@ -1,5 +1,5 @@
 -- What the last of a pass's tries was refused with.
-use Rattle.std.proofs.Common.{◌≡◌, ◌≢◌, ℕ, List, [], ◌∷◌, ◌++◌, Result, Option, Ok, Err, Some, None, MatchResult, refl, sym, ap, ◌∙◌, if◌then◌else◌, nat_eq, ne_eqb}
+use Rattle.std.proofs.Common.{◌≡◌, ℕ, List, [], ◌∷◌, ◌++◌, Result, Option, Ok, Err, Some, None, MatchResult, refl, ap, ◌∙◌, if◌then◌else◌, ne_eqb}
 use Rattle.std.specs.Result.{result_err}
 use Rattle.waiter_chain.specs.Steps.{SeatState, entry}
 use Rattle.waiter_chain.specs.Calls.{WasBusy}
@@ -8,7 +8,6 @@ use Rattle.waiter_chain.specs.declared.view.Entry.{Entry}
 use Rattle.waiter_chain.specs.declared.view.Event.TheVariants.{TryIn}
 use Rattle.waiter_chain.specs.declared.turn.DistBusy.{DistBusy}
 use Rattle.combine_job.specs.declared.parcel.Parcel.{Parcel}
-use Rattle.combine_job.specs.declared.parcel.Kept.{Kept}
 use Rattle.dist_mutex.specs.declared.owner.Owner.{Owner}
 use Rattle.dist_mutex.specs.Owners.{LockedBy}
 use Rattle.dist_mutex.specs.Tries.{fault_of, last_fault}

@@ -1,10 +1,9 @@
 -- Tries after tries.
-use Rattle.std.specs.Prelude.{◌≡◌, ◌≢◌, ℕ, List, [], ◌∷◌, ◌++◌, Result, Option, Some, None, map, All}
+use Rattle.std.specs.Prelude.{◌≡◌, ◌≢◌, ℕ, List, [], ◌∷◌, ◌++◌, Result, map, All}
 use Rattle.std.proofs.Common.{refl, sym, ap, ◌∙◌, subst, append_assoc}
 use Rattle.std.proofs.lemmas.List.Elements.{All-nil, All-cons, All-append}
 use Rattle.waiter_chain.specs.Steps.{SeatState, entry, with_steps}
 use Rattle.waiter_chain.specs.declared.view.Opening.{Opening}
-use Rattle.waiter_chain.specs.declared.view.View.{View}
 use Rattle.waiter_chain.specs.declared.view.Entry.{Entry}
 use Rattle.waiter_chain.specs.declared.view.Event.TheVariants.{TryIn}
 use Rattle.waiter_chain.specs.declared.turn.Turn.{Turn}
@@ -12,7 +11,7 @@ use Rattle.waiter_chain.specs.declared.turn.DistBusy.{DistBusy}
 use Rattle.combine_job.specs.declared.parcel.Kept.{Kept}
 use Rattle.combine_job.specs.declared.parcel.Parcel.{Parcel}
 use Rattle.dist_mutex.specs.Owners.{LockedBy}
-use Rattle.dist_mutex.specs.Tries.{fault_of, last_fault, tried_state, Refused, LockedAtLast}
+use Rattle.dist_mutex.specs.Tries.{tried_state, Refused, LockedAtLast}
 
 map-append : {A B : Type 0} (f : A → B) (xs ys : List A) → map f (xs ++ ys) ≡ map f xs ++ map f ys
 map-append f [] ys = refl

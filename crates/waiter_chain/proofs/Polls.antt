@@ -32,8 +32,8 @@ ranged nodes slots first end xs is low line low-end =
 spot-is : (P : Type 0) (n b m c : ℕ) (j : Bool) → 0 < spot {P = P} n b m (Behind c j) → (m ≡ n) × (c ≡ b) × (j ≡ false)
 spot-is P n b m c j h = dite (ℕ_discrete m n)
     (λ z. bool_cases j
-        (λ t. absurd (omega (arith, h, ap {B = ℕ} (λ x. cond x (cond j 0 (same c b)) 0) (eq-eqb m n z), ap {B = ℕ} (λ x. cond x 0 (same c b)) t)))
-        (λ f. (z, same-pos c b (omega (arith, h, ap {B = ℕ} (λ x. cond x (cond j 0 (same c b)) 0) (eq-eqb m n z), ap {B = ℕ} (λ x. cond x 0 (same c b)) f)), f)))
+    (λ t. absurd (omega (arith, h, ap {B = ℕ} (λ x. cond x (cond j 0 (same c b)) 0) (eq-eqb m n z), ap {B = ℕ} (λ x. cond x 0 (same c b)) t)))
+    (λ f. (z, same-pos c b (omega (arith, h, ap {B = ℕ} (λ x. cond x (cond j 0 (same c b)) 0) (eq-eqb m n z), ap {B = ℕ} (λ x. cond x 0 (same c b)) f)), f)))
     (λ nz. absurd (omega (arith, h, ap {B = ℕ} (λ x. cond x (cond j 0 (same c b)) 0) (ne_eqb m n nz))))
 
 pub spot-self : (P : Type 0) (n b : ℕ) → spot {P = P} n b n (Behind b false) ≡ 1
