@@ -221,8 +221,8 @@ fn an_owner_runs_jobs_at_rising_positions(rt: HostRuntime) -> Result<(), Fail> {
 
 #[test]
 fn a_free_lock_is_taken_past_the_deadline_too(rt: HostRuntime) -> Result<(), Fail> {
-    let (bank, mut pass) = Bank::make(rt.alloc(), 1, 0, 0, an_account(0))?;
     let mut clock = ListClock::new(vec![in rt.alloc(); 7, 8]?);
+    let (bank, mut pass) = Bank::make(rt.alloc(), 1, 0, 0, an_account(0))?;
     match bank.lock_until(&rt, &mut pass, &mut clock, 0) {
         Ok(owner) => {
             let _released = bank.unlock(&mut pass, owner);
@@ -237,13 +237,13 @@ fn a_free_lock_is_taken_past_the_deadline_too(rt: HostRuntime) -> Result<(), Fai
 
 #[test]
 fn an_owned_lock_is_late_at_the_deadline(rt: HostRuntime) -> Result<(), Fail> {
+    let mut clock = ListClock::new(vec![in rt.alloc(); 0, 3, 5, 6]?);
     let (bank, mut zero) = Bank::make(rt.alloc(), 2, 0, 0, an_account(0))?;
     let mut one = bank.split(&mut zero, 1, 0);
     let owner = match bank.try_lock(&mut zero) {
         Ok(owner) => owner,
         Err(_busy) => panic!(rt; "the lock was taken"),
     };
-    let mut clock = ListClock::new(vec![in rt.alloc(); 0, 3, 5, 6]?);
     match bank.lock_until(&rt, &mut one, &mut clock, 5) {
         Ok(_owner) => panic!(rt; "two owners"),
         Err(late) => {
