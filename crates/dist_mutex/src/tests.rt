@@ -1,4 +1,4 @@
-//! The distributed lock at work: its row of words, jobs of a counter and of an account, and many threads.
+//! The distributed lock at work: who owns it in which order, jobs of an account, and waits with a deadline.
 ghost use Rattle.std.specs.Prelude.{◌≡◌, ◌+◌, ◌≤◌, length, []};
 ghost use Rattle.dist_mutex.specs.Owners.{IsFree};
 
@@ -6,11 +6,8 @@ use crate::mutex::DistMutex;
 use crate::owner::Next;
 use crate::pass::DistPass;
 use combine_job::job::{Job, Room};
-use combine_job::once::OnceJob;
 use ql_base::{Clock, ListClock};
-use std::sync::Wait;
 use std::test::Fail;
-use std::thread;
 use waiter_chain::turn::{Entered, Kind, Polled};
 
 /// A sum of money, and how many jobs it can still take.
