@@ -1,4 +1,4 @@
-//! The distributed lock at work: its row of words, jobs of a counter and of an account, and many threads.
+//! The distributed lock at work: who owns it in which order, jobs of an account, and waits with a deadline.
 ghost use Rattle.std.specs.Prelude.{◌≡◌, ◌+◌, ◌≤◌, length, []};
 ghost use Rattle.dist_mutex.specs.Owners.{IsFree};
 
@@ -6,11 +6,8 @@ use crate::mutex::DistMutex;
 use crate::owner::Next;
 use crate::pass::DistPass;
 use combine_job::job::{Job, Room};
-use combine_job::once::OnceJob;
 use ql_base::{Clock, ListClock};
-use std::sync::Wait;
 use std::test::Fail;
-use std::thread;
 use waiter_chain::turn::{Entered, Kind, Polled};
 
 /// A sum of money, and how many jobs it can still take.
@@ -221,8 +218,8 @@ fn an_owner_runs_jobs_at_rising_positions(rt: HostRuntime) -> Result<(), Fail> {
 
 #[test]
 fn a_free_lock_is_taken_past_the_deadline_too(rt: HostRuntime) -> Result<(), Fail> {
-    let (bank, mut pass) = Bank::make(rt.alloc(), 1, 0, 0, an_account(0))?;
     let mut clock = ListClock::new(vec![in rt.alloc(); 7, 8]?);
+    let (bank, mut pass) = Bank::make(rt.alloc(), 1, 0, 0, an_account(0))?;
     match bank.lock_until(&rt, &mut pass, &mut clock, 0) {
         Ok(owner) => {
             let _released = bank.unlock(&mut pass, owner);
@@ -237,13 +234,13 @@ fn a_free_lock_is_taken_past_the_deadline_too(rt: HostRuntime) -> Result<(), Fai
 
 #[test]
 fn an_owned_lock_is_late_at_the_deadline(rt: HostRuntime) -> Result<(), Fail> {
+    let mut clock = ListClock::new(vec![in rt.alloc(); 0, 3, 5, 6]?);
     let (bank, mut zero) = Bank::make(rt.alloc(), 2, 0, 0, an_account(0))?;
     let mut one = bank.split(&mut zero, 1, 0);
     let owner = match bank.try_lock(&mut zero) {
         Ok(owner) => owner,
         Err(_busy) => panic!(rt; "the lock was taken"),
     };
-    let mut clock = ListClock::new(vec![in rt.alloc(); 0, 3, 5, 6]?);
     match bank.lock_until(&rt, &mut one, &mut clock, 5) {
         Ok(_owner) => panic!(rt; "two owners"),
         Err(late) => {
