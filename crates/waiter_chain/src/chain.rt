@@ -32,7 +32,10 @@ use std::marker::Brand;
 /// | | n + 2 | locked, and node n was the last to swap itself in |
 /// | status of node n, 1 + 2 n | 0 or what an earlier ownership left | idle, or owner |
 /// | | 1 | waits |
+/// | | 2 | waits with a job; no call makes it so yet |
+/// | | 3 | another pass has run its job; no call makes it so yet |
 /// | | 4 + e | it was made the owner, and its chain ends at the word e |
+/// | link of node n, 2 + 2 n | 0 | no call stores a link yet |
 pub struct Chain<P: Freight> {
     pub(crate) table: Table<Option<P>, View<P>, Opening<P>, Rule<P>, Global>,
     pub(crate) nodes: u64,
