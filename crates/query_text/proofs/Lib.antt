@@ -1,5 +1,4 @@
 pub mod Lines
-mod Numbers
 mod Lists
 pub mod LogLines
 pub mod Scripts
