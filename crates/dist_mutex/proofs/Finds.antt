@@ -1,7 +1,8 @@
 -- What an owner that has just won the lock knows of the value, and what a close knows.
-use Rattle.std.proofs.Common.{◌≡◌, ℕ, ◌+◌, Result, Option, Some, None, List, [], ◌∷◌, ◌++◌, length, false, refl, sym, ap, ◌∙◌, subst, arith}
+use Rattle.std.proofs.Common.{◌≡◌, ℕ, zero, suc, ◌+◌, ◌<◌, Result, Option, Some, None, List, [], ◌∷◌, ◌++◌, length, false, refl, sym, ap, ◌∙◌, subst, arith}
+use mathlib.Core.Option.{none, Option as Maybe}
 use Rattle.view_sums.specs.Sums.{total, term_le}
-use Rattle.waiter_chain.specs.Goods.{Part, part, resting, Runs, answers_of}
+use Rattle.waiter_chain.specs.Goods.{Goods, Part, part, below, Runs, answers_of}
 use Rattle.waiter_chain.specs.Chains.{part_of}
 use Rattle.waiter_chain.specs.Steps.{SeatState, Sound, ownership, moved}
 use Rattle.waiter_chain.specs.Calls.{Won}
@@ -14,7 +15,6 @@ use Rattle.combine_job.specs.declared.parcel.Kept.{Kept}
 use Rattle.combine_job.specs.declared.parcel.Parcel.{Parcel}
 use Rattle.combine_job.specs.declared.parcel.Parcel.TheVariants.{Value}
 use Rattle.combine_job.specs.Parcels.{Related, Ruled, place, weight, kept_in}
-use Rattle.combine_job.specs.Below.{below-nothing}
 use Rattle.combine_job.specs.Laws.{value-injective, runs-append}
 use Rattle.combine_job.proofs.Positions.{history-once}
 use Rattle.dist_mutex.specs.Owners.{Stands, Owning, LockedBy, Ends}
@@ -30,19 +30,24 @@ in_hand x y e = ap (λ (l : List (ℕ × _)). first l x) e
     first [] d = d
     first (z ∷ zs) d = z.1
 
+-- where no node has anything, the sum is 0
+below-none : {A : Type 0} (w : Maybe A → ℕ) (f : ℕ → Maybe A) (n : ℕ) → w none ≡ 0 → ((k : ℕ) → k < n → f k ≡ none) → below w f n ≡ 0
+below-none w f zero z h = refl
+below-none w f (suc n) z h = omega (arith, below-none w f n z (λ k l. h k (omega arith)), ap w (h n (omega arith)), z)
+
 module _ {V J O X : Type 0} (rooms : V → ℕ) (means : V → J → Result O X → V → Type 0) (is_ready : J → Type 0) (o : Opening (Parcel V J O X)) where
   pub stands : (y : Parcel V J O X) (q : ℕ) (own : List (Parcel V J O X)) → Sound (Ruled rooms means is_ready o) y (part q own) → (kept : Kept V) × (y ≡ Value kept) × Stands rooms means o own q kept
   stands y q own s =
-      let parts = s.0 in let r : Ruled rooms means is_ready o (resting y parts) = s.1 in
+      let g : Goods (Parcel V J O X) = s.0 in let r : Ruled rooms means is_ready o g = s.1 in
       let runs : Runs (Related rooms means) o.first.value r.history (Value r.now) = subst (Runs (Related rooms means) o.first.value r.history) r.is r.runs in
-      let enough = term_le (λ (x : Part (Parcel V J O X)). x.quota) parts s.2.0 (part q own) s.2.1 in (
+      let enough = term_le (λ (x : Part (Parcel V J O X)). x.quota) g.parts s.3.0 (part q own) s.3.1 in (
         r.now,
-        r.is,
+        sym s.2 ∙ r.is,
         record {
           history = r.history;
           runs = runs;
           once = history-once rooms means r.history o.first.value (Value r.now) r.first r.now r.began refl r.none_ran runs;
-          mine = λ w. omega (arith, term_le (λ (x : Part (Parcel V J O X)). total w x.own) parts s.2.0 (part q own) s.2.1, r.answers w);
+          mine = λ w. omega (arith, term_le (λ (x : Part (Parcel V J O X)). total w x.own) g.parts s.3.0 (part q own) s.3.1, r.answers w);
           room = omega (arith, r.room, enough);
           count = omega (arith, r.paid, enough);
           small = r.small;
@@ -63,7 +68,7 @@ module _ {V J O X : Type 0} (rooms : V → ℕ) (means : V → J → Result O X 
         known,
         record {
           notes = ownership t.first t.end t.mark false (Value kept);
-          owns = (ap (λ (x : SeatState (Parcel V J O X)). x.0.stage) state, refl, refl, refl, ap (λ (x : SeatState (Parcel V J O X)). x.1) state, w.2);
+          owns = (ap (λ (x : SeatState (Parcel V J O X)). x.0.stage) state, refl, refl, refl, ap (λ (x : SeatState (Parcel V J O X)). x.1) state, w.2, (refl, refl));
           runs = refl;
           room = omega (arith, known.room, quota);
           count = omega (arith, known.count, known.small, quota);
@@ -90,9 +95,9 @@ module _ {V J O X : Type 0} (rooms : V → ℕ) (means : V → J → Result O X 
       longer (y ∷ ys) x = omega (arith, longer ys x)
 
   -- where no other pass has anything left, the closing pass's answers are those of the history
-  pub all_answers : (v : View (Parcel V J O X)) (value : Parcel V J O X) (parts : List (Part (Parcel V J O X))) → Ruled rooms means is_ready o (resting value parts)
-      → ((w : Part (Parcel V J O X) → ℕ) → w (part 0 []) ≡ 0 → total w parts ≡ w (part_of v)) → Ends rooms means o v.own (kept_in value)
-  all_answers v value parts r alone =
+  pub all_answers : (v : View (Parcel V J O X)) (g : Goods (Parcel V J O X)) → Ruled rooms means is_ready o g → ((n : ℕ) → n < o.nodes → g.answered n ≡ none)
+      → ((w : Part (Parcel V J O X) → ℕ) → w (part 0 []) ≡ 0 → total w g.parts ≡ w (part_of v)) → Ends rooms means o v.own (kept_in g.value)
+  all_answers v g r no-answer alone =
       let runs : Runs (Related rooms means) o.first.value r.history (Value r.now) = subst (Runs (Related rooms means) o.first.value r.history) r.is r.runs in
-      let same : (w : Parcel V J O X → ℕ) → total w v.own ≡ total w (answers_of r.history) = λ w. omega (arith, alone (λ (x : Part (Parcel V J O X)). total w x.own) refl, r.answers w, below-nothing (weight w) o.nodes refl) in
+      let same : (w : Parcel V J O X → ℕ) → total w v.own ≡ total w (answers_of r.history) = λ w. omega (arith, alone (λ (x : Part (Parcel V J O X)). total w x.own) refl, r.answers w, below-none (weight w) g.answered o.nodes refl no-answer) in
       (r.now, r.history, ap kept_in r.is, runs, same, λ p. same (place p) ∙ history-once rooms means r.history o.first.value (Value r.now) r.first r.now r.began refl r.none_ran runs p)

@@ -2,3 +2,4 @@ pub mod Finds
 pub mod Hands
 pub mod Waits
 pub mod Combines
+pub mod Faults

@@ -25,7 +25,7 @@ module _ {P : Type 0} where
 
   -- the pass has stored 1 in its own status, and has swapped itself in behind the word b
   abbrev pub behind_state : ℕ → SeatState P → SeatState P
-  behind_state b m = (moved (readied_state m).0 (Behind b) (entry m.0 SwapIn 0 b), [])
+  behind_state b m = (moved (readied_state m).0 (Behind b false) (entry m.0 SwapIn 0 b), [])
 
   -- the pass has found its own status 1 so many times
   abbrev pub polled_state : ℕ → SeatState P → SeatState P

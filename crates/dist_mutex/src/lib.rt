@@ -20,3 +20,4 @@ pub mod owner;
 pub mod pass;
 #[cfg(test)]
 mod tests;
+pub mod timed;

@@ -1,4 +1,4 @@
-//! The distributed lock at work: its row of words, jobs of a counter and of an account, and many threads.
+//! The distributed lock at work: who owns it in which order, jobs of an account, and waits with a deadline.
 ghost use Rattle.std.specs.Prelude.{◌≡◌, ◌+◌, ◌≤◌, length, []};
 ghost use Rattle.dist_mutex.specs.Owners.{IsFree};
 
@@ -6,10 +6,8 @@ use crate::mutex::DistMutex;
 use crate::owner::Next;
 use crate::pass::DistPass;
 use combine_job::job::{Job, Room};
-use combine_job::once::OnceJob;
-use std::sync::Wait;
+use ql_base::{Clock, ListClock};
 use std::test::Fail;
-use std::thread;
 use waiter_chain::turn::{Entered, Kind, Polled};
 
 /// A sum of money, and how many jobs it can still take.
@@ -215,5 +213,50 @@ fn an_owner_runs_jobs_at_rising_positions(rt: HostRuntime) -> Result<(), Fail> {
         Some(kept) => assert!(rt; kept.ran == 3 && kept.value.balance == 10),
         None => panic!(rt; "the value is lost"),
     }
+    Ok(())
+}
+
+#[test]
+fn a_free_lock_is_taken_past_the_deadline_too(rt: HostRuntime) -> Result<(), Fail> {
+    let mut clock = ListClock::new(vec![in rt.alloc(); 7, 8]?);
+    let (bank, mut pass) = Bank::make(rt.alloc(), 1, 0, 0, an_account(0))?;
+    match bank.lock_until(&rt, &mut pass, &mut clock, 0) {
+        Ok(owner) => {
+            let _released = bank.unlock(&mut pass, owner);
+        }
+        Err(_late) => panic!(rt; "the lock was taken"),
+    }
+    assert_eq!(rt; clock.now(), 7, "the clock was asked");
+    let (kept, _retired) = bank.close(pass);
+    assert!(rt; kept.is_some());
+    Ok(())
+}
+
+#[test]
+fn an_owned_lock_is_late_at_the_deadline(rt: HostRuntime) -> Result<(), Fail> {
+    let mut clock = ListClock::new(vec![in rt.alloc(); 0, 3, 5, 6]?);
+    let (bank, mut zero) = Bank::make(rt.alloc(), 2, 0, 0, an_account(0))?;
+    let mut one = bank.split(&mut zero, 1, 0);
+    let owner = match bank.try_lock(&mut zero) {
+        Ok(owner) => owner,
+        Err(_busy) => panic!(rt; "the lock was taken"),
+    };
+    match bank.lock_until(&rt, &mut one, &mut clock, 5) {
+        Ok(_owner) => panic!(rt; "two owners"),
+        Err(late) => {
+            assert!(rt; late.now == 5 && late.deadline == 5 && late.fault.word == 1);
+        }
+    }
+    assert_eq!(rt; clock.now(), 6, "the clock was asked after the deadline");
+    let _released = bank.unlock(&mut zero, owner);
+    match bank.lock_until(&rt, &mut one, &mut clock, 5) {
+        Ok(owner) => {
+            let _released = bank.unlock(&mut one, owner);
+        }
+        Err(_late) => panic!(rt; "the lock is not free"),
+    }
+    bank.join(&mut zero, one);
+    let (kept, _retired) = bank.close(zero);
+    assert!(rt; kept.is_some());
     Ok(())
 }

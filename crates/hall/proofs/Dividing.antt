@@ -23,6 +23,7 @@ use Rattle.lock_model.specs.Locks.{Has}
 use Rattle.state_word.specs.Words.{units_of}
 use Rattle.hall.specs.declared.view.Kind.TheVariants.{Hold}
 use Rattle.hall.specs.Trails.{last_read, Heads, Reasoned, IsTrodden, Others, StrongOthers, Trailed}
+use Rattle.hall.specs.Partings.{Met}
 use Rattle.hall.proofs.Racing.{none_of, reasoned_more, reasoned_join}
 use Rattle.hall.specs.Rule.{Holds, Formed, AllFormed, cargo_seat}
 use Rattle.hall.specs.NumberLaws.{within-add, within-none, within-yes, steps_apart}
@@ -297,12 +298,16 @@ module _ {C P : Type 0} (g : Ghosts C P) (plan : Plan C) (s : State (Unit {0}) (
   }
 
 module _ {C P : Type 0} (g : Ghosts C P) (plan : Plan C) where
-  -- a look that leaves all as it was tells that a quota is one of a `u64`
-  pub weighs : (n id i : ℕ) (me : Me (Unit {0}) (View P)) → Allows (Holds g plan) n id me i (λ x. x) (λ r m. (m ≡ me) × (me.0.quota < 2 ^ 64))
-  weighs n id i me s h wide at fits = (
+  -- a look that leaves all as it was tells that the rule holds, and that a quota is one of a `u64`
+  pub weighs : (n id i : ℕ) (me : Me (Unit {0}) (View P)) → 0 < me.0.span → Allows (Holds g plan) n id me i (λ x. x) (λ r m. (m ≡ me) × (me.0.quota < 2 ^ 64) × Met g me.0)
+  weighs n id i me lives s h wide at fits = (
     me.0,
     keeps,
     tt,
     (let same : record { words = set s.words i (get_or s.words i 0); homes = s.homes; views = set s.views id me.0 } ≡ s = λ k. record { words = set-get_or s.words i 0 k; homes = s.homes; views = set_again s.views id me.0 at k } in subst (Holds g plan) (sym same) h),
-    (refl, omega (arith, h.rationed, h.counted, term_le (λ u. u.quota) s.views id me.0 at)),
+    (
+      refl,
+      omega (arith, h.rationed, h.counted, term_le (λ u. u.quota) s.views id me.0 at),
+      record { plan = plan; state = s; id = id; shape = sym ((h.formed id me.0 at).shape lives); mine = at; holds = h },
+    ),
   )

@@ -10,6 +10,7 @@ mod Steps
 mod Events
 mod Allowing
 mod Dividing
+mod Parting
 mod Opening
 mod Carrying
 mod Ending

@@ -4,6 +4,7 @@ pub mod Locks
 pub mod Moves
 pub mod NumberLaws
 pub mod Numbers
+pub mod Partings
 pub mod Passes
 pub mod Plays
 pub mod Reasons

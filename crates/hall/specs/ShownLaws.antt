@@ -15,13 +15,13 @@ use Rattle.hall.specs.Views.{standing}
 use Rattle.hall.specs.Moves.{role_of, shown, lock_shown}
 
 module _ {P : Type 0} where
-  abbrev entry : ℕ → View P → SeatRole
+  abbrev pub entry : ℕ → View P → SeatRole
   entry lock v = seat_role v.number (role_of (standing v lock))
 
-  shown_spent : (lock : ℕ) (v : View P) (vs : List (View P)) → v.span ≡ 0 → shown lock (v ∷ vs) ≡ shown lock vs
+  pub shown_spent : (lock : ℕ) (v : View P) (vs : List (View P)) → v.span ≡ 0 → shown lock (v ∷ vs) ≡ shown lock vs
   shown_spent lock v vs e = ap (λ (b : Bool). if b then shown lock vs else entry lock v ∷ shown lock vs) (eq-eqb v.span 0 e)
 
-  shown_living : (lock : ℕ) (v : View P) (vs : List (View P)) → 0 < v.span → shown lock (v ∷ vs) ≡ entry lock v ∷ shown lock vs
+  pub shown_living : (lock : ℕ) (v : View P) (vs : List (View P)) → 0 < v.span → shown lock (v ∷ vs) ≡ entry lock v ∷ shown lock vs
   shown_living lock v vs lives = ap (λ (b : Bool). if b then shown lock vs else entry lock v ∷ shown lock vs) (ne_eqb v.span 0 (λ e. omega (arith, e)))
 
   -- a step that changes no role at a lock

@@ -113,13 +113,17 @@ impl<C: CargoRule> Join<View<C::Part>> for Joining<C> {
     ghost spent = { spent_view C.spent };
 }
 
-/// A look that isn't listed: it tells that the quota of a pass is one of a `u64`.
-pub struct Weigh;
+/// A look that isn't listed: it tells that the rule holds at a moment at which the pass has its view, and that the
+/// quota is one of a `u64`.
+pub struct Weigh<C> {
+    marker: PhantomData<C>,
+}
 
-impl<P> Play<(), View<P>> for Weigh {
+impl<C: CargoRule> Play<(), View<C::Part>> for Weigh<C> {
     ghost use Rattle.std.specs.Prelude.{◌≡◌, ◌<◌, ◌^◌};
+    ghost use Rattle.hall.specs.Partings.{Met};
 
-    ghost then = { λ st m r n. (n ≡ m) × (m.0.quota < 2 ^ 64) };
+    ghost then = { λ st m r n. (n ≡ m) × (m.0.quota < 2 ^ 64) × Met C.CargoRule m.0 };
 }
 
 /// What a step on a cargo word leaves to its pass: of the word found, the part before and the part after.

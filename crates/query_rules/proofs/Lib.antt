@@ -1,3 +1,7 @@
 mod Examples
-pub mod ReplyKinds
+pub mod Kept
+mod Numbers
 pub mod Jobs
+pub mod ReplyKinds
+pub mod Spelled
+pub mod Table

@@ -4,12 +4,15 @@
 //! definition that more than one crate speaks of: lines, words and numbers; which bytes are a
 //! script; the plain meaning of a query; one legal history; the text of a log.
 //!
-//! Its few functions are one table, [`Verb`], by which a script is read and a log is written.
+//! Its few functions are one table, [`Verb`], by which a script is read and a log is written, and
+//! [`number`], which reads a number.
 #![tactic(auto)]
 
+mod numeral;
 mod query;
 mod verb;
 
+pub use numeral::number;
 pub use query::{
     Account, Cause, LedgerAct, LedgerTold, LedgerTrouble, Query, Reply, Said, Section, Spot, Total,
 };

@@ -1,5 +1,5 @@
 -- Lists of lists, kept as a vector of vectors.
-use Rattle.std.proofs.Common.{◌≡◌, ℕ, ◌+◌, ◌-◌, ◌<◌, ◌≤◌, ◌^◌, min, take, sum_by, arith, append-nil, length-append, List, [], ◌∷◌, ◌++◌, length, map, get_or, set, refl, sym, ap, ◌∙◌, Vec}
+use Rattle.std.proofs.Common.{◌≡◌, ℕ, ◌+◌, ◌-◌, ◌<◌, ◌≤◌, ◌^◌, min, take, sum_by, arith, append-nil, length-append, List, [], ◌∷◌, ◌++◌, length, map, get_or, set, sym, ap, ◌∙◌, Vec}
 use Rattle.std.proofs.lemmas.List.{map-set, length-map, get_or-map, take_all}
 use Rattle.std.proofs.lemmas.List.Sums.{sum_by-set}
 use Rattle.std.proofs.Math.Seq.{map-set_same, take-append_seam}
@@ -25,7 +25,7 @@ pub view_same : (vs : List (Vec Query Global)) (i : ℕ) (old new : Vec Query Gl
 view_same vs i old new is same = map-set_same (λ (v : Vec Query Global). v.items) vs i new old (same ∙ ap (λ v. v.items) is)
 
 -- one query more
-pub total_more : (lists : List (List Query)) (q : Query) → 0 < length lists → sum_by length (with_query lists q) ≡ sum_by length lists + 1
+total_more : (lists : List (List Query)) (q : Query) → 0 < length lists → sum_by length (with_query lists q) ≡ sum_by length lists + 1
 total_more lists q some =
     let at : List Query = get_or lists (length lists - 1) [] in
     let sums = sum_by-set (length {A = Query}) lists (length lists - 1) (at ++ q ∷ []) [] (omega (arith, some)) in

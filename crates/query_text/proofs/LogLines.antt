@@ -1,5 +1,5 @@
 -- A line of a log, made word by word.
-use Rattle.std.proofs.Common.{◌≡◌, ℕ, List, [], ◌∷◌, ◌++◌, refl, sym, ap, ◌∙◌, append_assoc, append-nil, flat_map, codes, decimal}
+use Rattle.std.proofs.Common.{◌≡◌, ℕ, List, [], ◌∷◌, ◌++◌, sym, ap, ◌∙◌, append_assoc, append-nil, flat_map, codes, decimal}
 use Rattle.std.proofs.lemmas.List.Concat.{flat_map-append}
 use Rattle.query_rules.specs.declared.query.Query.{Query}
 use Rattle.query_rules.specs.declared.query.Reply.{Reply}
@@ -7,7 +7,7 @@ use Rattle.query_rules.specs.declared.query.Reply.TheVariants.{Placed, Busy, Lat
 use Rattle.query_rules.specs.Verbs.{query_words}
 use Rattle.query_rules.specs.Words.{line_of}
 use Rattle.query_rules.specs.declared.query.Cause.{Cause}
-use Rattle.query_rules.specs.Log.{reply_words, place_words, answer_line, cause_word, refused_at, refused_length}
+use Rattle.query_rules.specs.Log.{reply_words, answer_line, cause_word, refused_at, refused_length}
 use Rattle.query_text.specs.Spaced.{spaced, placed_bytes}
 
 assoc_six : (x a b q e r : List ℕ) → ((((x ++ a) ++ b) ++ q) ++ e) ++ r ≡ x ++ (a ++ (b ++ (q ++ (e ++ r))))

@@ -1,5 +1,5 @@
 -- A log's text, by its parts.
-use Rattle.std.proofs.Common.{◌≡◌, ℕ, ◌+◌, List, [], ◌∷◌, ◌++◌, length, take, drop, refl, sym, ap, ◌∙◌, subst}
+use Rattle.std.proofs.Common.{◌≡◌, ℕ, ◌+◌, List, [], ◌∷◌, ◌++◌, length, take, drop, sym, ap, ◌∙◌, subst}
 use Rattle.std.specs.List.{AllByRecursion}
 use Rattle.query_rules.specs.declared.query.Query.{Query}
 use Rattle.query_rules.specs.declared.query.Reply.{Reply}
@@ -17,7 +17,7 @@ totals_same : (t : Totals) (told : List (List Reply)) → ((k : Total) → total
 totals_same t told e = λ i. (Queries, e Queries i) ∷ (Writes, e Writes i) ∷ (Reads, e Reads i) ∷ (Refused, e Refused i) ∷ (Jobs, e Jobs i) ∷ []
 
 -- as many map lines as writes and reads were counted
-pub placed_same : (t : Totals) (told : List (List Reply)) → ((k : Total) → total_in k t ≡ total_of k told) → t.writes + t.reads ≡ placed_count told
+placed_same : (t : Totals) (told : List (List Reply)) → ((k : Total) → total_in k t ≡ total_of k told) → t.writes + t.reads ≡ placed_count told
 placed_same t told e = ap (λ w. w + t.reads) (e Writes) ∙ ap (λ r. total_of Writes told + r) (e Reads)
 
 pub map_spots : (asked asked' : List (List Query)) (told : List (List Reply)) (order maps : List Spot) (t : Totals) → AreReplies asked told → IsOrder told order → asked' ≡ asked → ((k : Total) → total_in k t ≡ total_of k told) → maps ≡ take (t.writes + t.reads) order

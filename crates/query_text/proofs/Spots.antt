@@ -1,8 +1,8 @@
 -- The spots of a log's lines: how many there are, and that each has a query and a reply.
-use Rattle.std.proofs.Common.{◌≡◌, ℕ, zero, suc, ◌+◌, ◌-◌, ◌≤◌, ◌<◌, ◌%◌, ◌==◌, min, Bool, cond, List, [], ◌∷◌, ◌++◌, length, take, drop, get_or, refl, sym, ap, ◌∙◌, subst, arith, sum_by, count_by, length-append, Some, None, Option}
+use Rattle.std.proofs.Common.{◌≡◌, ℕ, zero, suc, ◌+◌, ◌-◌, ◌≤◌, ◌<◌, ◌%◌, ◌==◌, List, [], ◌∷◌, ◌++◌, length, take, drop, get_or, refl, sym, ap, ◌∙◌, subst, arith, sum_by, count_by, length-append, Some, None, Option}
 use Rattle.std.proofs.Math.Seq.{drop-cons}
 use Rattle.std.proofs.Math.Numerals.{add-one}
-use Rattle.std.specs.Prelude.{IsPermutation, IsErr}
+use Rattle.std.specs.Prelude.{IsErr}
 use Rattle.std.specs.declared.result.Result.{Result}
 use Rattle.std.specs.Io.KnownBytes.{Appends}
 use Rattle.ql_base.specs.Bytes.{AppendsFront, Writes}
@@ -21,13 +21,8 @@ use Rattle.query_rules.specs.declared.query.Section.TheVariants.{Maps}
 use Rattle.query_rules.specs.declared.query.Spot.{Spot}
 use Rattle.query_rules.specs.declared.query.Total.TheVariants as total
 use Rattle.query_rules.specs.History.{IsKindFor}
-use Rattle.query_rules.specs.Log.{key_in, spots_with, spots_from, spots_of, is_counted, total_of, placed_count, refused_line, refused_from, refused_of, IsSpot, IsOrder, IsOrderOf}
-
-abbrev one_if : Bool → ℕ
-one_if b = cond b 1 0
-
-count_cons : (p : Reply → Bool) (x : Reply) (xs : List Reply) → count_by p (x ∷ xs) ≡ one_if (p x) + count_by p xs
-count_cons p x xs = sum_by-cons (λ (y : Reply). one_if (p y)) x xs
+use Rattle.query_text.proofs.Tallies.{one_if, count_cons}
+use Rattle.query_rules.specs.Log.{key_in, spots_with, spots_from, spots_of, is_counted, placed_count, refused_line, refused_from, refused_of, IsSpot, IsOrder, IsOrderOf}
 
 parity : (place : ℕ) → one_if (place % 2 == 1) + one_if (place % 2 == 0) ≡ 1
 parity place = grind arith
@@ -153,14 +148,14 @@ order_spots section asked told order is in_order =
     recursion_from_All (IsSpot asked told) order (All-permutation (IsSpot asked told) (spots_of section 0 told) order in_order.each (All-from_recursion (IsSpot asked told) (spots_of section 0 told) all))
 
 -- the lines of refusals, one reply and one caller at a time
-pub refused_cut : (caller i : ℕ) (queries : List Query) (replies : List Reply) (q : Query) (r : Reply) → i < length queries → i < length replies
+refused_cut : (caller i : ℕ) (queries : List Query) (replies : List Reply) (q : Query) (r : Reply) → i < length queries → i < length replies
     → refused_from caller i (drop i queries) (drop i replies) ≡ refused_line caller i (get_or queries i q) (get_or replies i r) ++ refused_from caller (i + 1) (drop (i + 1) queries) (drop (i + 1) replies)
 refused_cut caller i queries replies q r asks tells =
     ap (λ qs. refused_from caller i qs (drop i replies)) (drop-cons queries i q asks)
     ∙ ap (λ rs. refused_from caller i (get_or queries i q ∷ drop (suc i) queries) rs) (drop-cons replies i r tells)
     ∙ ap (λ n. refused_line caller i (get_or queries i q) (get_or replies i r) ++ refused_from caller (i + 1) (drop n queries) (drop n replies)) (sym (add-one i))
 
-pub refused_of_cut : (i : ℕ) (asked : List (List Query)) (told : List (List Reply)) → i < length asked → i < length told
+refused_of_cut : (i : ℕ) (asked : List (List Query)) (told : List (List Reply)) → i < length asked → i < length told
     → refused_of i (drop i asked) (drop i told) ≡ refused_from i 0 (get_or asked i []) (get_or told i []) ++ refused_of (i + 1) (drop (i + 1) asked) (drop (i + 1) told)
 refused_of_cut i asked told asks tells =
     ap (λ qs. refused_of i qs (drop i told)) (drop-cons asked i [] asks)

@@ -1,17 +1,16 @@
 -- Totals, counted one reply and one list at a time.
-use Rattle.std.proofs.Common.{◌≡◌, ℕ, ◌+◌, ◌-◌, ◌≤◌, Bool, cond, List, [], ◌∷◌, length, take, drop, map, get_or, refl, sym, ap, ◌∙◌, subst, arith, sum_by, count_by, Vec}
+use Rattle.std.proofs.Common.{◌≡◌, ℕ, ◌+◌, ◌-◌, ◌≤◌, Bool, cond, List, [], ◌∷◌, length, take, drop, map, get_or, refl, ap, arith, sum_by, count_by, Vec}
 use Rattle.std.proofs.lemmas.List.{take_rest}
 use Rattle.std.proofs.lemmas.List.Sums.{sum_by-cons}
 use Rattle.std.specs.declared.alloc.Global.{Global}
 use Rattle.query_rules.specs.declared.query.Reply.{Reply}
-use Rattle.query_rules.specs.declared.query.Total.{Total}
 use Rattle.query_rules.specs.declared.query.Total.TheVariants.{Queries}
-use Rattle.query_rules.specs.Log.{is_counted, total_of}
+use Rattle.query_rules.specs.Log.{is_counted}
 
-abbrev one_if : Bool → ℕ
+abbrev pub one_if : Bool → ℕ
 one_if b = cond b 1 0
 
-count_cons : (p : Reply → Bool) (x : Reply) (xs : List Reply) → count_by p (x ∷ xs) ≡ one_if (p x) + count_by p xs
+pub count_cons : (p : Reply → Bool) (x : Reply) (xs : List Reply) → count_by p (x ∷ xs) ≡ one_if (p x) + count_by p xs
 count_cons p x xs = sum_by-cons (λ (y : Reply). one_if (p y)) x xs
 
 -- one reply

@@ -17,6 +17,8 @@ const DONE: u8 = 0;
 
 const USAGE: u8 = 2;
 
+const REFUSED: u8 = 3;
+
 const WRITE_FAULT: u8 = 5;
 
 const NO_MEMORY: u8 = 6;
@@ -56,8 +58,9 @@ fn main(rt: HostRuntime) -> ExitCode {
         &clocks,
         &OpenGate,
     );
+    // A log or a refusal counts as written once the buffer has let it go.
     match sink.flush() {
-        Err(_) if status == DONE => ExitCode::from(WRITE_FAULT),
+        Err(_) if status == DONE || status == REFUSED => ExitCode::from(WRITE_FAULT),
         _ => ExitCode::from(status),
     }
 }

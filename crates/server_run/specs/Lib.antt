@@ -1,4 +1,3 @@
 pub mod Alone
 pub mod Desks
 pub mod Serve
-pub mod Words

@@ -12,12 +12,11 @@ mod desk;
 mod order;
 mod run;
 mod serve;
-mod words;
 
+pub use command_line::{Options, Policy, RunMode, WordsFault, check_words};
 pub use order::order_of;
 pub use run::run_script;
 pub use serve::serve_main;
-pub use words::{Options, RunMode, WordsFault, check_words};
 
 #[cfg(test)]
 mod tests;

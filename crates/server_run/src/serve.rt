@@ -6,11 +6,11 @@ ghost use Rattle.ql_base.specs.Causes.{Rose};
 ghost use Rattle.server_run.specs.Serve.{limit, Reads, IsLogOf, WritesOneHistory, WritesFront, IsRefusalOf, WritesRefusal, WritesRefusalFront, Completes, Refuses};
 ghost use Rattle.query_text.specs.Refusals.{refusal_text};
 ghost use Rattle.query_text.specs.declared.refusal.Refusal.{Refusal};
-ghost use Rattle.server_run.specs.Words.{options_in};
+ghost use Rattle.command_line.specs.Form.{options_in};
 
 use crate::order::order_of;
 use crate::run::run_script;
-use crate::{WordsFault, check_words};
+use command_line::{WordsFault, check_words};
 use ql_base::{Clocks, Gate, ReadFault, Sink, Source, read_to_end};
 use query_text::{ParseFault, Refusal, Script, parse_script, write_log, write_refusal};
 use std::alloc::Global;
@@ -126,7 +126,8 @@ pub fn serve_main<R: Threads + Wait + Sync, S: Source, K: Sink, T: Clocks, G: Ga
     ensures history { result ≡ 0 → IfSome (options_in words.now) (λ o. WritesOneHistory (S.left source.old) (S.left source.new) (K.written sink.old) (K.written sink.new) o.rows) }
 
     // Each other status has its cause.
-    ensures usage { (result ≡ 2) ↔ (options_in words.now ≡ None) }
+    ensures usage { result ≡ 2 → options_in words.now ≡ None }
+    ensures no_words { options_in words.now ≡ None → (result ≡ 2) ⊎ (result ≡ 6) }
     ensures refused { result ≡ 3 → WritesRefusal (S.left source.old) (K.written sink.old) (K.written sink.new) }
     ensures read_fault { result ≡ 4 → Rose (S.faults source.old) (S.faults source.new) }
     ensures write_fault { result ≡ 5 → Rose (K.faults sink.old) (K.faults sink.new) }
@@ -146,7 +147,7 @@ pub fn serve_main<R: Threads + Wait + Sync, S: Source, K: Sink, T: Clocks, G: Ga
     // Reading stops once one byte more came than a script may have.
     ensures counted { TakesUpTo (S.left source.old) (S.left source.new) (limit + 1) }
 {
-    let options = match check_words(words) {
+    let options = match check_words(alloc, words) {
         Ok(options) => options,
         Err(WordsFault::Usage) => return USAGE,
         Err(WordsFault::NoMemory) => return NO_MEMORY,

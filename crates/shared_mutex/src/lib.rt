@@ -8,6 +8,8 @@
 //! or waits.
 #![tactic(auto)]
 
+#[cfg(test)]
+mod beside_model;
 mod exclusive;
 mod shared;
 #[cfg(test)]

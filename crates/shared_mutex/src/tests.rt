@@ -80,31 +80,32 @@ fn word_is<A: Abort>(rt: &A, hall: &Hall<NoCargo>, pass: &mut Pass<NoCargo>, wor
 
 #[test]
 fn writer_then_readers_then_writer(rt: HostRuntime) {
-    let made = Hall::make(rt.alloc(), 1, 32, Policy::WritePriority, 3, 0, NoCargo);
-    assert!(rt; made.is_ok());
-    let Ok((hall, first)) = made else {
-        unreachable!()
-    };
-    let mut first = first;
-    let mut second = hall.split(&mut first, 1, 0);
-    let mut third = hall.split(&mut first, 1, 0);
-    assert_eq!(rt; second.number(), 2);
-    assert_eq!(rt; third.number(), 1);
-    let guard = exclusive(&rt, &hall, &mut first);
-    word_is(&rt, &hall, &mut first, 8);
-    no_shared(&rt, &hall, &mut second, 8);
-    no_exclusive(&rt, &hall, &mut second, 8);
-    unlock(&hall, &mut first, guard);
-    word_is(&rt, &hall, &mut first, 0);
-    let left = shared(&rt, &hall, &mut second);
-    word_is(&rt, &hall, &mut second, ONE);
-    let right = shared(&rt, &hall, &mut third);
-    word_is(&rt, &hall, &mut third, 2 * ONE);
-    no_exclusive(&rt, &hall, &mut first, 2 * ONE + 4);
-    word_is(&rt, &hall, &mut first, 2 * ONE + 1);
-    unlock_shared(&hall, &mut second, left);
-    unlock_shared(&hall, &mut third, right);
-    word_is(&rt, &hall, &mut first, 1);
+    for policy in [Policy::WritePriority, Policy::ReadPriority] {
+        let made = Hall::make(rt.alloc(), 1, 32, policy, 3, 0, NoCargo);
+        let Ok((hall, first)) = made else {
+            unreachable_without_memory(&rt)
+        };
+        let mut first = first;
+        let mut second = hall.split(&mut first, 1, 0);
+        let mut third = hall.split(&mut first, 1, 0);
+        assert_eq!(rt; second.number(), 2);
+        assert_eq!(rt; third.number(), 1);
+        let guard = exclusive(&rt, &hall, &mut first);
+        word_is(&rt, &hall, &mut first, 8);
+        no_shared(&rt, &hall, &mut second, 8);
+        no_exclusive(&rt, &hall, &mut second, 8);
+        unlock(&hall, &mut first, guard);
+        word_is(&rt, &hall, &mut first, 0);
+        let left = shared(&rt, &hall, &mut second);
+        word_is(&rt, &hall, &mut second, ONE);
+        let right = shared(&rt, &hall, &mut third);
+        word_is(&rt, &hall, &mut third, 2 * ONE);
+        no_exclusive(&rt, &hall, &mut first, 2 * ONE + 4);
+        word_is(&rt, &hall, &mut first, 2 * ONE + 1);
+        unlock_shared(&hall, &mut second, left);
+        unlock_shared(&hall, &mut third, right);
+        word_is(&rt, &hall, &mut first, 1);
+    }
 }
 
 // A waiting writer keeps a reader out under write priority, and lets it in under read priority.

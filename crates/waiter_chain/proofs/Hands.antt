@@ -57,7 +57,7 @@ module _ {P : Type 0} where
 
   -- what a pass that has just become the owner may do
   pub won_turn : (rule : Goods P → Type 0) (slots : ℕ) (t : Turn) (m n : SeatState P) (e : Entry) → Won rule slots t m e n → HasTurn slots t n
-  won_turn rule slots t m n e w = (Some w.0, ownership t.first t.end t.mark false w.0, (ap (λ (z : SeatState P). z.0.stage) w.1, refl, refl, refl, ap (λ (z : SeatState P). z.1) w.1, w.2))
+  won_turn rule slots t m n e w = (Some w.0, ownership t.first t.end t.mark false w.0, (ap (λ (z : SeatState P). z.0.stage) w.1, refl, refl, refl, ap (λ (z : SeatState P). z.1) w.1, w.2, (refl, refl)))
 
   pub won_ends : (relates : P → P → P → P → Type 0) (rule : Goods P → Type 0) (slots : ℕ) (t : Turn) (m n : SeatState P) (e : Entry) → Won rule slots t m e n → MayEnd relates [] n
   won_ends relates rule slots t m n e w = (ownership t.first t.end t.mark false w.0, w.0, ap (λ (z : SeatState P). z.0.stage) w.1, ap (λ (z : SeatState P). z.1) w.1, omega arith, refl)

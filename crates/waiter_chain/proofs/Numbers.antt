@@ -1,20 +1,21 @@
 -- Ranges of numbers, as a pass is split and joined.
-use Rattle.std.proofs.Common.{◌≡◌, ◌≢◌, ℕ, ◌+◌, ◌-◌, ◌<◌, ◌≤◌, List, [], ◌∷◌, ◌++◌, map, set, true, false, true≢false, refl, sym, ap, ◌∙◌, subst, ⊎_elim, arith, cond, nat_lt}
+use Rattle.std.proofs.Common.{◌≡◌, ◌≢◌, ℕ, ◌+◌, ◌*◌, ◌-◌, ◌<◌, ◌≤◌, List, [], ◌∷◌, ◌++◌, map, set, Bool, true, false, true≢false, refl, sym, ap, ◌∙◌, subst, ⊎_elim, arith, cond, nat_lt, slice_index}
 use mathlib.Core.Option.{some}
 use mathlib.Core.Logic.{dite}
-use native.Mathlib.Decide.{dec_lt}
+use native.Mathlib.Decide.{ℕ_discrete, dec_lt}
 use Rattle.std.proofs.lemmas.Bool.{le-ltb, lt-ltb}
 use Rattle.std.proofs.lemmas.List.{map-append}
 use lib.ListN.{get_elem?}
 use Rattle.atomic_table.specs.Table.{Splits, Joins}
 use Rattle.atomic_table.proofs.Lists.{at_set, at_snoc, set_else, at_map}
 use Rattle.waiter_chain.specs.declared.view.View.{View}
-use Rattle.waiter_chain.specs.declared.view.Stage.TheVariants.{Idle, Ready, Owns}
-use Rattle.waiter_chain.specs.Goods.{Goods, resting, part, Cuts, Merges}
-use Rattle.waiter_chain.specs.Chains.{status, within, weigh, covers, part_of, turn, Lawful}
+use Rattle.waiter_chain.specs.declared.view.Stage.{Stage}
+use Rattle.waiter_chain.specs.declared.view.Stage.TheVariants.{Idle, Owns}
+use Rattle.waiter_chain.specs.Goods.{Goods, goods, part, Cuts, Merges}
+use Rattle.waiter_chain.specs.Chains.{within, weigh, covers, part_of, desk, Seated, AtRest, turn, Lawful}
 use Rattle.waiter_chain.specs.Steps.{first_view, cut_left, cut_right, joined, spent}
-use Rattle.view_sums.specs.Sums.{total, total-set, total-append, map-set}
-use Rattle.waiter_chain.proofs.Rules.{covers-live}
+use Rattle.view_sums.specs.Sums.{total, total-set, total-append, map-set, same-refl}
+use Rattle.waiter_chain.proofs.Rules.{covers-live, covers-number}
 
 below : (n a k : ℕ) → n < a → within n (a, k) ≡ 0
 below n a k l = ap {B = ℕ} (λ b. cond b 0 (cond (nat_lt (a + k) n) 0 1)) (lt-ltb n a l)
@@ -46,10 +47,20 @@ module _ {P : Type 0} where
 pub covers-first : (P : Type 0) (n nodes q : ℕ) → n < nodes → 0 < covers n (first_view {P = P} nodes q)
 covers-first P n nodes q low = omega (arith, within-all n nodes (omega arith), ap {B = ℕ} (λ b. cond b 1 0) (lt-ltb n nodes low))
 
+-- a number of a range is not below its first
+pub within-low : (n a k : ℕ) → 0 < within n (a, k) → a ≤ n
+within-low n a k h = dite (dec_lt n a) (λ l. absurd (omega (arith, below n a k l))) (λ l. omega arith)
+
+or-false : (a b : Bool) → cond a true b ≡ false → (a ≡ false) × (b ≡ false)
+or-false true b e = absurd (true≢false e)
+or-false false b e = (refl, e)
+
 module _ {P : Type 0} (rule : Goods P → Type 0) (nodes : ℕ) where
   pub splits : Cuts rule → (id : ℕ) (v : View P) (c q : ℕ) → v.gone ≡ false → 0 < c → c ≤ v.spare → q ≤ v.quota → Splits (Lawful rule nodes) id v (cut_left c q v) (cut_right c q v)
   splits law id v c q live-now some-left fits enough s o me =
       let l : View P = cut_left c q v in let r : View P = cut_right c q v in
+      let whole : (n : ℕ) → covers n v ≡ covers n l + covers n r = λ n. covers-cut n c q v live-now some-left fits in
+      let new-there : 0 < covers r.number v = omega (arith, whole r.number, covers-number r.number r refl, same-refl r.number) in
       let sum : (f : View P → ℕ) → total f (set s.views id l ++ r ∷ []) + f v ≡ total f s.views + f l + f r = λ f. omega (arith, total-append f (set s.views id l) (r ∷ []), total-set f s.views id v l me) in
       let at : (Q : View P → Type 0) (j : ℕ) (u : View P) → get_elem? (set s.views id l ++ r ∷ []) j ≡ some u → Q l → Q r → ((i : ℕ) → get_elem? s.views i ≡ some u → Q u) → Q u = λ Q j u e ql qr other.
       ⊎_elim (λ (t : get_elem? (set s.views id l) j ≡ some u). ⊎_elim (λ (z : (j ≡ id) × (l ≡ u)). subst Q z.1 ql) (λ (z : (j ≢ id) × (get_elem? s.views j ≡ some u)). other j z.1) (at_set s.views id j l u t)) (λ (z : r ≡ u). subst Q z qr) (at_snoc (set s.views id l) r u j e) in
@@ -57,20 +68,30 @@ module _ {P : Type 0} (rule : Goods P → Type 0) (nodes : ℕ) where
         owner = o.owner;
         older = o.older;
         newer = o.newer;
+        done = o.done;
         value = o.value;
+        posted = o.posted;
+        answered = o.answered;
         wide = o.wide;
         long = o.long;
         covered = λ n. omega (arith, sum (covers n), o.covered n, covers-cut n c q v live-now some-left fits);
         standing = λ g waking. omega (arith, sum (weigh g), o.standing g waking, (waking r.number).0);
         asleep = λ j u e. at (λ x. x.gone ≡ true → (x.stage ≡ Idle) × (part_of x ≡ part 0 [])) j u e (λ z. absurd (true≢false (sym z ∙ live-now))) (λ z. absurd (true≢false (sym z))) (λ i z. o.asleep i u z);
         owned = λ j u k e. at (λ x. x.stage ≡ Owns k → o.owner ≡ turn x.number k) j u e (o.owned id v k me) (λ z. absurd (cc)) (λ i z. o.owned i u k z);
-        ready = λ j u e. at (λ x. x.stage ≡ Ready → status s.words x.number ≡ 1) j u e (o.ready id v me) (λ z. absurd (cc)) (λ i z. o.ready i u z);
+        seated = λ j u e. at (λ x. x.gone ≡ false → Seated x.stage (desk s.words s.homes o.posted o.answered x.number)) j u e (o.seated id v me) (λ _. o.unused id v r.number me live-now new-there (λ z. omega arith)) (λ i z. o.seated i u z);
+        unused = λ j u n e. at (λ x. x.gone ≡ false → 0 < covers n x → n ≢ x.number → AtRest (desk s.words s.homes o.posted o.answered n)) j u e
+            (λ _ h ne. o.unused id v n me live-now (omega (arith, h, whole n)) ne)
+            (λ _ h ne. o.unused id v n me live-now (omega (arith, h, whole n)) (λ z. omega (arith, z, within-low n r.number r.spare (omega (arith, h, covers-live n r refl)))))
+            (λ i z. o.unused i u n z);
+        unlinked = λ j u n e. at (λ x. x.gone ≡ false → x.linked ≡ false → 0 < covers n x → slice_index s.words (2 + 2 * n) ≡ 0) j u e
+            (λ _ f h. o.unlinked id v n me live-now f (omega (arith, h, whole n))) (λ _ f h. o.unlinked id v n me live-now f (omega (arith, h, whole n))) (λ i z. o.unlinked i u n z);
         old_waits = o.old_waits;
         new_waits = o.new_waits;
+        finished = o.finished;
         held = o.held;
         funded = omega (arith, sum (λ (x : View P). x.quota), o.funded);
-        goods_rule = subst (λ ps. rule (resting o.value ps)) (sym (map-append part_of (set s.views id l) (r ∷ []) ∙ ap (λ ps. ps ++ part q [] ∷ []) (map-set part_of s.views id l)))
-            (law (resting o.value (map part_of s.views)) id (v.quota - q) q v.own o.goods_rule (at_map part_of s.views id v me ∙ ap (λ (x : ℕ). some (part x v.own)) (omega arith)));
+        goods_rule = subst (λ ps. rule (goods o.value o.posted o.answered ps)) (sym (map-append part_of (set s.views id l) (r ∷ []) ∙ ap (λ ps. ps ++ part q [] ∷ []) (map-set part_of s.views id l)))
+            (law (goods o.value o.posted o.answered (map part_of s.views)) id (v.quota - q) q v.own o.goods_rule (at_map part_of s.views id v me ∙ ap (λ (x : ℕ). some (part x v.own)) (omega arith)));
       }
 
   pub joins : Merges rule → (id : ℕ) (v : View P) (other : ℕ) (w : View P) → v.gone ≡ false → w.gone ≡ false → w.stage ≡ Idle → Joins (Lawful rule nodes) id v other w (joined v w) spent
@@ -84,18 +105,31 @@ module _ {P : Type 0} (rule : Goods P → Type 0) (nodes : ℕ) where
         owner = o.owner;
         older = o.older;
         newer = o.newer;
+        done = o.done;
         value = o.value;
+        posted = o.posted;
+        answered = o.answered;
         wide = o.wide;
         long = o.long;
         covered = λ n. omega (arith, sum (covers n), o.covered n, covers-joined n v w live-v live-w);
         standing = λ g waking. omega (arith, sum (weigh g), o.standing g waking, (waking 0).0, (waking w.number).0, ap (g w.number) idle);
         asleep = λ j u e. at (λ x. x.gone ≡ true → (x.stage ≡ Idle) × (part_of x ≡ part 0 [])) j u e (λ z. absurd (true≢false (sym z ∙ live-v))) (λ _. (refl, refl)) (λ i z. o.asleep i u z);
         owned = λ j u k e. at (λ x. x.stage ≡ Owns k → o.owner ≡ turn x.number k) j u e (o.owned id v k me) (λ z. absurd (cc)) (λ i z. o.owned i u k z);
-        ready = λ j u e. at (λ x. x.stage ≡ Ready → status s.words x.number ≡ 1) j u e (o.ready id v me) (λ z. absurd (cc)) (λ i z. o.ready i u z);
+        seated = λ j u e. at (λ x. x.gone ≡ false → Seated x.stage (desk s.words s.homes o.posted o.answered x.number)) j u e (λ _. o.seated id v me live-v) (λ z. absurd (true≢false z)) (λ i z. o.seated i u z);
+        unused = λ j u n e. at (λ x. x.gone ≡ false → 0 < covers n x → n ≢ x.number → AtRest (desk s.words s.homes o.posted o.answered n)) j u e
+            (λ _ h ne. dite (dec_lt 0 (covers n v)) (λ l. o.unused id v n me live-v l ne)
+            (λ l. let there-w : 0 < covers n w = omega (arith, h, covers-joined n v w live-v live-w) in dite (ℕ_discrete n w.number)
+            (λ z. subst (λ (i : ℕ). AtRest (desk s.words s.homes o.posted o.answered i)) (sym z) (subst (λ (g : Stage P). Seated g (desk s.words s.homes o.posted o.answered w.number)) idle (o.seated other w them live-w)))
+            (λ nz. o.unused other w n them live-w there-w nz)))
+            (λ z. absurd (true≢false z)) (λ i z. o.unused i u n z);
+        unlinked = λ j u n e. at (λ x. x.gone ≡ false → x.linked ≡ false → 0 < covers n x → slice_index s.words (2 + 2 * n) ≡ 0) j u e
+            (λ _ f h. let both = or-false v.linked w.linked f in dite (dec_lt 0 (covers n v)) (λ l. o.unlinked id v n me live-v both.0 l) (λ l. o.unlinked other w n them live-w both.1 (omega (arith, h, covers-joined n v w live-v live-w))))
+            (λ z. absurd (true≢false z)) (λ i z. o.unlinked i u n z);
         old_waits = o.old_waits;
         new_waits = o.new_waits;
+        finished = o.finished;
         held = o.held;
         funded = omega (arith, sum (λ (x : View P). x.quota), o.funded);
-        goods_rule = subst (λ ps. rule (resting o.value ps)) (sym (map-set part_of vs other spent ∙ ap (λ ps. set ps other (part 0 [])) (map-set part_of s.views id b)))
-            (law (resting o.value (map part_of s.views)) id other v.quota w.quota v.own w.own o.goods_rule apart (at_map part_of s.views id v me) (at_map part_of s.views other w them));
+        goods_rule = subst (λ ps. rule (goods o.value o.posted o.answered ps)) (sym (map-set part_of vs other spent ∙ ap (λ ps. set ps other (part 0 [])) (map-set part_of s.views id b)))
+            (law (goods o.value o.posted o.answered (map part_of s.views)) id other v.quota w.quota v.own w.own o.goods_rule apart (at_map part_of s.views id v me) (at_map part_of s.views other w them));
       }

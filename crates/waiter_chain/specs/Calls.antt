@@ -1,7 +1,7 @@
 -- What the calls on a chain promise.
 use Rattle.std.specs.Prelude.{◌≡◌, ◌≢◌, ◌⊎◌, ℕ, ◌+◌, ◌*◌, ◌≤◌, List, [], ◌∷◌, length, Option, Some, false}
 use Rattle.waiter_chain.specs.Goods.{Goods, part, Runs}
-use Rattle.waiter_chain.specs.Steps.{SeatState, Ranged, Sound, ownership, passed, entry, moved, noted, stays, ended}
+use Rattle.waiter_chain.specs.Steps.{SeatState, Ranged, HasNone, Sound, ownership, passed, entry, moved, noted, stays, ended}
 use Rattle.waiter_chain.specs.declared.view.Entry.{Entry}
 use Rattle.waiter_chain.specs.declared.view.Event.TheVariants.{SetStatus, SwapIn, TryIn, LoadStatus, Free, TakeChain}
 use Rattle.waiter_chain.specs.declared.view.Ownership.{Ownership}
@@ -24,11 +24,11 @@ module _ {P : Type 0} where
 
   -- the pass waits behind the word b
   abbrev pub IsBehind : ℕ → SeatState P → Type 0
-  IsBehind b m = (m.0.stage ≡ Behind b) × (m.1 ≡ [])
+  IsBehind b m = (m.0.stage ≡ Behind b false) × (m.1 ≡ [])
 
   -- the pass owns the lock by this turn, as these notes say, with this in slot 0
   abbrev pub OwnsBy : ℕ → Turn → Option P → SeatState P → Ownership P → Type 0
-  OwnsBy slots t hand m k = (m.0.stage ≡ Owns k) × (k.first ≡ t.first) × (k.end ≡ t.end) × (k.mark ≡ t.mark) × (m.1 ≡ (0, hand) ∷ []) × Ranged slots t.first t.end
+  OwnsBy slots t hand m k = (m.0.stage ≡ Owns k) × (k.first ≡ t.first) × (k.end ≡ t.end) × (k.mark ≡ t.mark) × (m.1 ≡ (0, hand) ∷ []) × Ranged slots t.first t.end × HasNone k
 
   abbrev pub HasTurn : ℕ → Turn → SeatState P → Type 0
   HasTurn slots t m = (hand : Option P) × (k : Ownership P) × OwnsBy slots t hand m k
@@ -47,12 +47,12 @@ module _ {P : Type 0} where
 
   -- the pass has stored 1 in its own status
   abbrev pub readied_state : SeatState P → SeatState P
-  readied_state m = (moved m.0 Ready (entry m.0 SetStatus (1 + 2 * m.0.number) 1), m.1)
+  readied_state m = (moved m.0 (Ready false) (entry m.0 SetStatus (1 + 2 * m.0.number) 1), m.1)
 
   -- and has then swapped itself in: the owner found 0, and who is behind another found that word
   abbrev pub EnteredAs : (Goods P → Type 0) → ℕ → ℕ → SeatState P → SeatState P → Entered → Type 0
   EnteredAs rule slots b m n (entered.Owner t) = Won rule slots t (readied_state m) (entry m.0 SwapIn 0 0) n × (t.first ≡ m.0.number + 2) × (t.end ≡ m.0.number + 2) × (t.mark ≡ m.0.number + 2)
-  EnteredAs rule slots b m n entered.Behind = (b ≢ 0) × (n ≡ (moved (readied_state m).0 (Behind b) (entry m.0 SwapIn 0 b), []))
+  EnteredAs rule slots b m n entered.Behind = (b ≢ 0) × (n ≡ (moved (readied_state m).0 (Behind b false) (entry m.0 SwapIn 0 b), []))
 
   -- the same
   abbrev pub ArrivedAs : (Goods P → Type 0) → ℕ → ℕ → SeatState P → SeatState P → Arrived → Type 0

@@ -1,9 +1,9 @@
 -- What each step tells: of the step, the seat before, the number found (at a store, the number stored) and the seat after.
-use Rattle.std.specs.Prelude.{◌≡◌, ◌≢◌, ℕ, ◌+◌, ◌-◌, ◌*◌, ◌<◌, ◌≤◌, List, [], ◌∷◌, ◌++◌, length, Bool, true, false, Option, Some}
+use Rattle.std.specs.Prelude.{◌≡◌, ◌≢◌, ℕ, ◌+◌, ◌-◌, ◌*◌, ◌<◌, ◌≤◌, List, [], ◌∷◌, ◌++◌, length, Bool, true, false, cond, Option, Some, None}
 use mathlib.Core.Option.{some}
 use lib.ListN.{get_elem?}
 use Rattle.atomic_table.specs.Table.{Me, Step, rest}
-use Rattle.waiter_chain.specs.Goods.{Goods, Part, part, resting, answers_of}
+use Rattle.waiter_chain.specs.Goods.{Goods, Part, part, answers_of}
 use Rattle.waiter_chain.specs.declared.view.View.{View}
 use Rattle.waiter_chain.specs.declared.view.Ownership.{Ownership}
 use Rattle.waiter_chain.specs.declared.view.Entry.{Entry}
@@ -25,35 +25,39 @@ Ranged slots first end = (2 * end < slots + 3) × (first ≢ end → (1 < first)
 
 module _ {P : Type 0} where
   abbrev pub ownership : ℕ → ℕ → ℕ → Bool → P → Ownership P
-  ownership first end mark others_came value = record { first = first; end = end; mark = mark; others_came = others_came; value = value }
+  ownership first end mark others_came value = record { first = first; end = end; mark = mark; others_came = others_came; job_waits = false; next = None; mine = None; value = value }
 
   -- the same, after the owner saw that others came
   abbrev pub passed : Ownership P → Ownership P
-  passed r = ownership r.first r.end r.mark true r.value
+  passed r = record { first = r.first; end = r.end; mark = r.mark; others_came = true; job_waits = r.job_waits; next = r.next; mine = r.mine; value = r.value }
+
+  -- the owner has no slot of another node, and no job of its own
+  abbrev pub HasNone : Ownership P → Type 0
+  HasNone r = (r.next ≡ None) × (r.mine ≡ None)
 
   abbrev pub first_view : ℕ → ℕ → View P
-  first_view nodes quota = record { number = 0; spare = nodes - 1; past = []; gone = false; quota = quota; stage = Idle; own = []; steps = [] }
+  first_view nodes quota = record { number = 0; spare = nodes - 1; past = []; gone = false; linked = false; quota = quota; stage = Idle; own = []; steps = [] }
 
   -- what a split leaves, and what it gives
   abbrev pub cut_left : ℕ → ℕ → View P → View P
-  cut_left nodes quota v = record { number = v.number; spare = v.spare - nodes; past = v.past; gone = v.gone; quota = v.quota - quota; stage = v.stage; own = v.own; steps = v.steps }
+  cut_left nodes quota v = record { number = v.number; spare = v.spare - nodes; past = v.past; gone = v.gone; linked = v.linked; quota = v.quota - quota; stage = v.stage; own = v.own; steps = v.steps }
 
   abbrev pub cut_right : ℕ → ℕ → View P → View P
-  cut_right nodes quota v = record { number = v.number + 1 + v.spare - nodes; spare = nodes - 1; past = []; gone = false; quota = quota; stage = Idle; own = []; steps = [] }
+  cut_right nodes quota v = record { number = v.number + 1 + v.spare - nodes; spare = nodes - 1; past = []; gone = false; linked = v.linked; quota = quota; stage = Idle; own = []; steps = [] }
 
   abbrev pub joined : View P → View P → View P
-  joined v w = record { number = v.number; spare = v.spare; past = v.past ++ (w.number, w.spare) ∷ w.past; gone = v.gone; quota = v.quota + w.quota; stage = v.stage; own = v.own ++ w.own; steps = v.steps ++ w.steps }
+  joined v w = record { number = v.number; spare = v.spare; past = v.past ++ (w.number, w.spare) ∷ w.past; gone = v.gone; linked = cond v.linked true w.linked; quota = v.quota + w.quota; stage = v.stage; own = v.own ++ w.own; steps = v.steps ++ w.steps }
 
   -- what is left of a pass that was taken in
   abbrev pub spent : View P
-  spent = record { number = 0; spare = 0; past = []; gone = true; quota = 0; stage = Idle; own = []; steps = [] }
+  spent = record { number = 0; spare = 0; past = []; gone = true; linked = false; quota = 0; stage = Idle; own = []; steps = [] }
 
   -- one step of this pass: of this kind, at this place, with this word
   abbrev pub entry : View P → Event → ℕ → ℕ → Entry
   entry v event place word = record { number = v.number; event = event; place = place; word = word }
 
   abbrev pub with_steps : View P → Stage P → List Entry → View P
-  with_steps v stage steps = record { number = v.number; spare = v.spare; past = v.past; gone = v.gone; quota = v.quota; stage = stage; own = v.own; steps = steps }
+  with_steps v stage steps = record { number = v.number; spare = v.spare; past = v.past; gone = v.gone; linked = v.linked; quota = v.quota; stage = stage; own = v.own; steps = steps }
 
   -- a step to this stage
   abbrev pub moved : View P → Stage P → Entry → View P
@@ -65,11 +69,11 @@ module _ {P : Type 0} where
 
   -- the step that ends an ownership, in which the pass ran these jobs of its own
   abbrev pub ended : View P → List (P × P) → Entry → View P
-  ended v ran e = record { number = v.number; spare = v.spare; past = v.past; gone = v.gone; quota = v.quota - length ran; stage = Idle; own = v.own ++ answers_of ran; steps = v.steps ++ e ∷ [] }
+  ended v ran e = record { number = v.number; spare = v.spare; past = v.past; gone = v.gone; linked = v.linked; quota = v.quota - length ran; stage = Idle; own = v.own ++ answers_of ran; steps = v.steps ++ e ∷ [] }
 
   -- the freight's rule holds of this value, beside a pass with this part
   abbrev pub Sound : (Goods P → Type 0) → P → Part P → Type 0
-  Sound rule y own = (parts : List (Part P)) × rule (resting y parts) × ((i : ℕ) × (get_elem? parts i ≡ some own))
+  Sound rule y own = (g : Goods P) × rule g × (g.value ≡ y) × ((i : ℕ) × (get_elem? g.parts i ≡ some own))
 
   -- the seat becomes the owner, with the value
   abbrev pub Wins : (Goods P → Type 0) → SeatState P → ℕ → ℕ → ℕ → Entry → SeatState P → Type 0
@@ -82,13 +86,13 @@ module _ {P : Type 0} where
   tried rule st m r n = (r ≡ 0 → Wins rule m 1 1 1 (entry m.0 TryIn st.word r) n) × (r ≢ 0 → n ≡ stays m (entry m.0 TryIn st.word r))
 
   abbrev pub readied : Telling P
-  readied st m r n = n ≡ (moved m.0 Ready (entry m.0 SetStatus st.word r), m.1)
+  readied st m r n = n ≡ (moved m.0 (Ready false) (entry m.0 SetStatus st.word r), m.1)
 
   abbrev pub swapped : (Goods P → Type 0) → Telling P
-  swapped rule st m r n = (r ≡ 0 → Wins rule m st.first st.first st.first (entry m.0 SwapIn st.word r) n) × (r ≢ 0 → n ≡ (moved m.0 (Behind r) (entry m.0 SwapIn st.word r), m.1))
+  swapped rule st m r n = (r ≡ 0 → Wins rule m st.first st.first st.first (entry m.0 SwapIn st.word r) n) × (r ≢ 0 → n ≡ (moved m.0 (Behind r false) (entry m.0 SwapIn st.word r), m.1))
 
   abbrev pub polled : (Goods P → Type 0) → Telling P
-  polled rule st m r n = (b : ℕ) → m.0.stage ≡ Behind b
+  polled rule st m r n = (b : ℕ) → m.0.stage ≡ Behind b false
       → (r < 4 → (r ≡ 1) × (n ≡ stays m (entry m.0 LoadStatus st.word r))) × (4 ≤ r → Ranged st.slots b (r - 4) × Wins rule m b (r - 4) 1 (entry m.0 LoadStatus st.word r) n)
 
   abbrev pub freed : List (P × P) → Telling P

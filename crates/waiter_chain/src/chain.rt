@@ -32,7 +32,10 @@ use std::marker::Brand;
 /// | | n + 2 | locked, and node n was the last to swap itself in |
 /// | status of node n, 1 + 2 n | 0 or what an earlier ownership left | idle, or owner |
 /// | | 1 | waits |
+/// | | 2 | waits with a job; no call makes it so yet |
+/// | | 3 | another pass has run its job; no call makes it so yet |
 /// | | 4 + e | it was made the owner, and its chain ends at the word e |
+/// | link of node n, 2 + 2 n | 0 | no call stores a link yet |
 pub struct Chain<P: Freight> {
     pub(crate) table: Table<Option<P>, View<P>, Opening<P>, Rule<P>, Global>,
     pub(crate) nodes: u64,
@@ -47,7 +50,7 @@ pub struct ChainPass<P> {
     pub(crate) spare: u64,
     pub(crate) quota: u64,
     pub(crate) behind: u64,
-    ghost same: { (seat.me.0.number ≡ number) × (seat.me.0.spare ≡ spare) × (seat.me.0.quota ≡ quota) × (seat.me.0.gone ≡ false) },
+    ghost same: { (seat.me.0.number ≡ number) × (seat.me.0.spare ≡ spare) × (seat.me.0.quota ≡ quota) × (seat.me.0.gone ≡ false) × (seat.me.0.linked ≡ false) },
     ghost low: { 2 * (number + spare) + 1 < seat.table_id.slots },
 }
 
@@ -120,7 +123,7 @@ impl<P: Freight> Chain<P> {
     fn merge(&self, pass: &mut ChainPass<P>, other: Seat<Option<P>, View<P>>, quota: u64)
         requires own { (pass.old.seat.table_id ≡ self.now.table.shared.table_id) × (other.table_id ≡ self.now.table.shared.table_id) }
         requires idle { IsIdle pass.old.seat.me × IsIdle other.me }
-        requires live { (other.me.0.gone ≡ false) × (other.me.0.quota ≡ quota) }
+        requires live { (other.me.0.gone ≡ false) × (other.me.0.linked ≡ false) × (other.me.0.quota ≡ quota) }
         ensures own { (pass.new.seat.table_id ≡ pass.old.seat.table_id) × (pass.new.seat.id ≡ pass.old.seat.id) }
         ensures joined { pass.new.seat.me ≡ (joined pass.old.seat.me.0 other.me.0, []) }
         ensures covers { (n : ℕ) → covers n pass.new.seat.me.0 ≡ covers n pass.old.seat.me.0 + covers n other.me.0 }

@@ -3,8 +3,12 @@
 //! number into one central word and then waits on a word of its own.
 //!
 //! The crate stands on `atomic_table`, whose rule holds between any two steps of any passes. `specs/Chains.antt` has the
-//! rule of this table: there is at most one owner, the central word is 0 exactly where there is none, and two lists
-//! hold exactly the waiting nodes. `specs/Goods.antt` has the laws of what a chain carries.
+//! rule of this table: there is at most one owner, the central word is 0 exactly where there is none, lists hold
+//! exactly the waiting nodes and those whose jobs have run, and it says of each node what stands in its words and its
+//! slots. `specs/Goods.antt` has the laws of what a chain carries.
+//!
+//! The rule is that of a chain whose nodes may post jobs for the owner to run. No call posts one yet: each pass enters
+//! to have the lock itself.
 //!
 //! The contracts promise of each call exactly the steps that it makes, in the pass's own list of steps, and what it
 //! answers for which word. Nothing is promised of a wait's end.

@@ -40,6 +40,15 @@ pub struct Entry {
     pub word: u64,
 }
 
+/// The next node of an owner's chain, whose job slot and answer slot the owner has taken.
+pub struct Next<P> {
+    pub node: u64,
+    /// The word that its swap found.
+    pub behind: u64,
+    /// Its job.
+    pub job: P,
+}
+
 /// What an owner knows.
 pub struct Ownership<P> {
     /// The next node is `first - 2`, unless `first` is `end`.
@@ -49,6 +58,12 @@ pub struct Ownership<P> {
     pub mark: u64,
     /// Since the mark was set, the central word was found to be another.
     pub others_came: bool,
+    /// The next node's status was found to be 2.
+    pub job_waits: bool,
+    /// The next node, once the owner has taken its slots.
+    pub next: Option<Next<P>>,
+    /// The owner's own posted job, once it has taken it back.
+    pub mine: Option<P>,
     /// What the owner took out of slot 0.
     pub value: P,
 }
@@ -56,11 +71,18 @@ pub struct Ownership<P> {
 /// Where a pass stands.
 pub enum Stage<P> {
     Idle,
-    /// Its status is 1, and it has not swapped itself in yet.
-    Ready,
-    /// It waits, and this is the word that its swap found.
-    Behind(u64),
+    /// It is idle, and has its own job slot in hand.
+    Holding,
+    /// It is about to enter, and its link is 0. Whether it has its own job slot in hand.
+    Cleared(bool),
+    /// Its link is 0 and its status says how it enters, and it has not swapped itself in yet. Where it enters with a job it has its own job
+    /// slot in hand.
+    Ready(bool),
+    /// It waits. The word that its swap found, and whether it has posted a job.
+    Behind(u64, bool),
     Owns(Ownership<P>),
+    /// Another pass ran its job. It has its own answer slot in hand, in which this answer stood.
+    Done(P),
 }
 
 pub struct View<P> {
@@ -71,6 +93,8 @@ pub struct View<P> {
     pub past: LinkedList<(u64, u64)>,
     /// Another pass took it in.
     pub gone: bool,
+    /// A link word of one of its numbers may be another than 0.
+    pub linked: bool,
     /// How many jobs it may still run.
     pub quota: u64,
     pub stage: Stage<P>,

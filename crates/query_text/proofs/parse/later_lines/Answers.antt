@@ -1,5 +1,6 @@
 use Rattle.std.proofs.Common.{arith}
-use Rattle.query_text.proofs.Scripts.{next_line, later_keeps}
+use Rattle.query_text.proofs.Scripts.{next_line}
+use Rattle.query_rules.proofs.Kept.{later_keeps}
 use Rattle.query_text.proofs.parse.later_lines.Goals as goal
 
 pub loop-rest-preserved : goal.loop-rest-preserved

@@ -1,4 +1,4 @@
-use Rattle.std.proofs.Common.{◌≡◌, ◌∙◌, sym, ap, map, take}
+use Rattle.std.proofs.Common.{◌∙◌, sym, ap, map}
 use Rattle.query_rules.specs.Words.{words_of}
 use Rattle.query_rules.specs.Grammar as grammar
 use Rattle.query_text.proofs.Scripts.{later_same, spelled_is}

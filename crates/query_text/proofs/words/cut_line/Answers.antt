@@ -1,6 +1,5 @@
-use Rattle.std.proofs.Common.{rules, arith, ap, ◌∙◌, sym, ◌∷◌, ◌+◌, take, ℕ, ◌≡◌, length}
+use Rattle.std.proofs.Common.{arith}
 use Rattle.std.proofs.lemmas.List.{take_rest}
-use Rattle.query_rules.specs.Words.{lines_of}
 use Rattle.query_text.proofs.Lines.{lines_cut, lines_last}
 use Rattle.query_text.proofs.words.cut_line.Goals as goal
 

@@ -5,7 +5,7 @@ use Rattle.dist_mutex.proofs.mutex.DistMutex.unlock.Goals as goal
 pub hand_over-next-requires-clause-turn : goal.hand_over-next-requires-clause-turn
 hand_over-next-requires-clause-turn g c =
     let w = c.requires.owner in let o = w.owns in let e = c.move_slot-empty.ensures.moved.1 in
-    (_, w.notes, (ap (λ z. z.0.stage) e ∙ o.0, o.1, o.2, o.3, ap (λ z. z.1) e, o.5))
+    (_, w.notes, (ap (λ z. z.0.stage) e ∙ o.0, o.1, o.2, o.3, ap (λ z. z.1) e, o.5, o.6))
 
 pub hand_over-next-requires-clause-ends : goal.hand_over-next-requires-clause-ends
 hand_over-next-requires-clause-ends g c =

@@ -1,4 +1,4 @@
-use Rattle.std.proofs.Common.{arith, ap, length, map, List, sum_by, ◌<◌, ◌^◌, ◌≡◌, ◌∙◌}
+use Rattle.std.proofs.Common.{arith, ap, length, map, sum_by, ◌∙◌}
 use Rattle.query_rules.specs.declared.query.Reply.{Reply}
 use Rattle.query_rules.specs.declared.query.Total.TheVariants.{Queries}
 use Rattle.query_text.proofs.outcome.Outcome.totals.Goals as goal

@@ -1,4 +1,3 @@
-use Rattle.std.proofs.Common.{ℕ}
 use Rattle.query_rules.specs.declared.query.Total.TheVariants.{Queries}
 use Rattle.query_rules.specs.Log.{is_counted}
 use Rattle.query_text.proofs.Tallies.{count_next, length_next}

@@ -1,6 +1,5 @@
-use Rattle.std.proofs.Common.{◌≡◌, ◌≤◌, ◌+◌, length, count_by}
+use Rattle.std.proofs.Common.{◌≡◌, ◌+◌, length, count_by}
 use Rattle.query_rules.specs.declared.query.Total.{Total}
-use Rattle.query_rules.specs.declared.query.Total.TheVariants.{Queries}
 use Rattle.query_rules.specs.Log.{is_counted}
 use Rattle.query_text.specs.Counts.{total_in}
 use Rattle.query_text.proofs.outcome.Totals.count_list.Given as goal

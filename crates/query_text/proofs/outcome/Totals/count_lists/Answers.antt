@@ -1,4 +1,4 @@
-use Rattle.std.proofs.Common.{Vec, length, count_by, ◌∙◌, ap, ◌+◌, arith}
+use Rattle.std.proofs.Common.{Vec, length, count_by, ◌∙◌, ap, ◌+◌}
 use Rattle.std.specs.declared.alloc.Global.{Global}
 use Rattle.query_rules.specs.declared.query.Reply.{Reply}
 use Rattle.query_rules.specs.declared.query.Total.TheVariants.{Queries}

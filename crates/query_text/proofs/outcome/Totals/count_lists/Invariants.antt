@@ -1,4 +1,4 @@
-use Rattle.std.proofs.Common.{◌≡◌, ◌≤◌, ◌+◌, length, sum_by, map}
+use Rattle.std.proofs.Common.{◌≡◌, ◌+◌, length, sum_by, map}
 use Rattle.query_rules.specs.declared.query.Total.{Total}
 use Rattle.query_rules.specs.Log.{total_of}
 use Rattle.query_text.specs.Counts.{total_in}

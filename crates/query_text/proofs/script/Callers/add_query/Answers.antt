@@ -1,4 +1,4 @@
-use Rattle.std.proofs.Common.{arith, ◌<◌, ◌-◌, ◌^◌, length, ◌≡◌, List, Vec, sym, subst, ap, ◌∙◌, min, sum_by}
+use Rattle.std.proofs.Common.{arith, ◌<◌, ◌-◌, ◌^◌, length, List, Vec, sym, subst, ap, ◌∙◌, min, sum_by}
 use Rattle.std.proofs.lemmas.List.{length-map}
 use Rattle.std.specs.declared.alloc.Global.{Global}
 use Rattle.query_rules.specs.declared.query.Query.{Query}

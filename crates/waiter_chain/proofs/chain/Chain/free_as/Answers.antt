@@ -7,8 +7,8 @@ use Rattle.waiter_chain.specs.declared.view.Stage.TheVariants.{Owns}
 use Rattle.waiter_chain.proofs.chain.Chain.free_as.Goals as goal
 
 pub load-requires : goal.load-requires
-load-requires g c = let o = c.args.self.now.table.shared.key in
-    (c.requires.own, omega (arith, c.args.self.now.sized.0), looks (g.P.Freight.rule o) o.nodes _ _ _ c.requires.ends.0 c.requires.ends.2)
+load-requires g c = let o = c.args.self.now.table.shared.key in let e = c.requires.ends in let t = c.requires.turn in let a = owns_at _ c.args.turn.now t.0 c.args.pass.now.seat.me e.0 t.1 e.2 t.2 in
+    (c.requires.own, omega (arith, c.args.self.now.sized.0), looks (g.P.Freight.rule o) o.nodes _ _ _ e.0 e.2 a.6)
 
 pub returns-then-load-mark-clause-taken : goal.returns-then-load-mark-clause-taken
 returns-then-load-mark-clause-taken g c _ =
@@ -23,7 +23,7 @@ compare_exchange-requires g c =
     let l = (c.load.ensures.2 e.0 e.2).0 (c.if-load-mark.false ∙ sym a.3) in (
       c.load.ensures.0 ∙ c.requires.own,
       omega (arith, c.args.self.now.sized.0),
-      frees (g.P.Freight.rule o) o.nodes g.P.Freight.relates (g.P.Freight.ends o) _ _ c.load.new.seat.me e.0 g.M.Ran.ran e.1 _ (ap (λ z. z.0.stage) l) (a.1 ∙ c.requires.empty ∙ sym a.2) (sym a.3) (ap (λ z. z.1) l ∙ e.3) (omega (arith, e.4, ap (λ z. z.0.quota) l)) e.5,
+      frees (g.P.Freight.rule o) o.nodes g.P.Freight.relates (g.P.Freight.ends o) _ _ c.load.new.seat.me e.0 g.M.Ran.ran e.1 _ (ap (λ z. z.0.stage) l) a.6 (a.1 ∙ c.requires.empty ∙ sym a.2) (sym a.3) (ap (λ z. z.1) l ∙ e.3) (omega (arith, e.4, ap (λ z. z.0.quota) l)) e.5,
     )
 
 pub returns-else-compare_exchange-mark-clause-taken : goal.returns-else-compare_exchange-mark-clause-taken

@@ -7,7 +7,7 @@ pub take_line-requires-clause-turn : goal.take_line-requires-clause-turn
 take_line-requires-clause-turn g c =
     let f = c.free_as.ensures.taken c.if-free_as.false in let t = c.requires.turn in let m = c.args.pass.now.seat.me in
     let a = owns_at _ c.args.turn t.0 m f.0 t.1 f.1 t.2 in let s = saw m c.free_as.new.pass.seat.me f.0 f.3 in
-    (t.0, passed f.0, (s.0, a.1, a.2, a.3, s.1 ∙ a.4, a.5), refl)
+    (t.0, passed f.0, (s.0, a.1, a.2, a.3, s.1 ∙ a.4, a.5, a.6), refl)
 
 pub returns-clause-answer : goal.returns-clause-answer
 returns-clause-answer g c =

@@ -1,0 +1,4 @@
+mod Examples
+pub mod Reading
+pub mod Shown
+pub mod Writing
