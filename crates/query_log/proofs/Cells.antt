@@ -1,9 +1,9 @@
 -- Maps of cells, kept as a list.
 use Rattle.std.proofs.Common.{◌≡◌, ℕ, zero, suc, ◌+◌, ◌-◌, ◌<◌, ◌≢◌, ◌==◌, Bool, true, false, cond, List, [], ◌∷◌, ◌++◌, length, get_or, set, Option, Some, None, is_some, refl, sym, ap, ◌∙◌, arith, Result, Ok, Err, OnOk, OnErr, IfOk, IsSome, is_err, subst}
-use Rattle.std.specs.Ordering.{nat_cmp, is_eq}
+use Rattle.std.specs.Ordering.{nat_cmp}
 use Rattle.std.specs.Map.{lookup}
 use Rattle.std.specs.BTreeMap.{BTreeMap, get, btree_map_len, Updates, is_at}
-use Rattle.query_rules.specs.Maps.{PlainMap, Maps, no_keys, no_entries, with_map, with_value, without, amount_at, less}
+use Rattle.query_rules.specs.Maps.{PlainMap, Maps, no_keys, with_map, with_value, without, amount_at, less}
 use Rattle.query_log.specs.Plain.{shown, maps_of}
 
 -- a cell that is there

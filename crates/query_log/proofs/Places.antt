@@ -1,15 +1,15 @@
 -- Accounts by key: where one stands, and what one more or another balance makes of them.
-use Rattle.std.proofs.Common.{◌≡◌, ℕ, zero, suc, ◌+◌, ◌-◌, ◌*◌, ◌<◌, ◌≤◌, ◌^◌, ◌==◌, Bool, true, false, cond, List, [], ◌∷◌, ◌++◌, length, get_or, set, Option, Some, None, Result, Ok, Err, refl, sym, ap, ◌∙◌, arith, subst, nat_le, nat_lt, length-set}
+use Rattle.std.proofs.Common.{◌≡◌, ℕ, zero, suc, ◌+◌, ◌-◌, ◌*◌, ◌<◌, ◌≤◌, ◌^◌, ◌==◌, Bool, true, false, cond, [], ◌∷◌, ◌++◌, length, get_or, set, Option, Some, None, Ok, Err, refl, sym, ap, ◌∙◌, arith, subst, nat_le, nat_lt, length-set}
 use Rattle.std.specs.Prelude.{option_map}
 use Rattle.std.specs.List.{AllByRecursion}
 use Rattle.std.proofs.lemmas.List.{length_push}
-use Rattle.std.proofs.lemmas.List.Sums.{sum_by-cons}
+use Rattle.std.proofs.lemmas.List.Sums.{sum_by-cons, sum_by-set}
 use Rattle.query_rules.specs.declared.query.Account.{Account}
 use Rattle.query_rules.specs.declared.query.LedgerAct.TheVariants.{Give, Take}
 use Rattle.query_rules.specs.declared.query.LedgerTold.TheVariants.{Now}
 use Rattle.query_rules.specs.declared.query.LedgerTrouble.TheVariants.{Over, Full, Short}
 use Rattle.query_rules.specs.Maps.{exceeds_u64}
-use Rattle.query_rules.specs.Ledger.{Accounts, LedgerResult, balance_at, with_balance, sum_of, given, taken, ran}
+use Rattle.query_rules.specs.Ledger.{Accounts, balance_at, with_balance, sum_of, given, taken, ran}
 use Rattle.query_log.specs.Book.{place_of, IsKept}
 
 abbrev pub next : Option ℕ → Option ℕ
@@ -136,16 +136,7 @@ place_pushed (a ∷ more) key n k e = push_step a more key n k (a.key == k) refl
 
 -- the sum with another balance
 pub sum_set : (accounts : Accounts) (place key n : ℕ) → place < length accounts → sum_of (set accounts place (record { key = key; balance = n })) + at accounts place ≡ sum_of accounts + n
-sum_set [] place key n lt = absurd (omega (arith, lt))
-sum_set (a ∷ more) zero key n lt =
-    let one = sum_by-cons (λ (x : Account). x.balance) a more in
-    let two = sum_by-cons (λ (x : Account). x.balance) (record { key = key; balance = n }) more in
-    omega (arith, one, two)
-sum_set (a ∷ more) (suc place) key n lt =
-    let one = sum_by-cons (λ (x : Account). x.balance) a more in
-    let two = sum_by-cons (λ (x : Account). x.balance) a (set more place (record { key = key; balance = n })) in
-    let rest = sum_set more place key n (omega (arith, lt)) in
-    omega (arith, one, two, rest)
+sum_set accounts place key n lt = sum_by-set (λ (x : Account). x.balance) accounts place (record { key = key; balance = n }) nothing lt
 
 pub sum_push : (accounts : Accounts) (a : Account) → sum_of (accounts ++ a ∷ []) ≡ sum_of accounts + a.balance
 sum_push [] a = omega arith

@@ -1,5 +1,5 @@
 -- What one caller is told alone is one history.
-use Rattle.std.proofs.Common.{◌≡◌, ◌≢◌, ℕ, ◌+◌, ◌*◌, ◌-◌, ◌/◌, ◌%◌, ◌<◌, ◌≤◌, ◌==◌, Bool, true, false, cond, List, [], ◌∷◌, ◌++◌, length, take, drop, get_or, refl, sym, ap, ◌∙◌, subst, append_assoc, append-nil, arith, Some, None, zip, count_by, slice_get, rules, length-append, inl, inr, Option, is_some}
+use Rattle.std.proofs.Common.{◌≡◌, ℕ, ◌+◌, ◌*◌, ◌-◌, ◌/◌, ◌%◌, ◌<◌, ◌≤◌, ◌==◌, Bool, true, false, cond, List, [], ◌∷◌, ◌++◌, length, take, drop, get_or, refl, sym, ap, ◌∙◌, subst, append_assoc, append-nil, arith, Some, None, zip, count_by, slice_get, length-append, inl, inr, Option, is_some}
 use Rattle.std.proofs.Math.Nat.{eq-or-lt_of_le}
 use Rattle.std.proofs.lemmas.List.Sums.{sum_by-cons}
 use Rattle.std.specs.List.{AllByRecursion, AllZip}
@@ -12,7 +12,7 @@ use Rattle.query_rules.specs.declared.query.Reply.{Reply}
 use Rattle.query_rules.specs.declared.query.Reply.TheVariants.{Placed, Busy, Late, Job}
 use Rattle.query_rules.specs.Maps.{Maps, no_entries, reply_of, after, is_write, written}
 use Rattle.query_rules.specs.Ledger.{Accounts, LedgerResult, no_accounts, act_of, result_of, accounts_of, run_all, ledger_at, RunsAt, is_job_at, IsLegalLedger}
-use Rattle.query_rules.specs.History.{place_of, replay, maps_at, StandsAt, Precedes, InOrder, IsKindFor, is_write_at, entries, IsLegal, AnswersEachOnce, IsHistory}
+use Rattle.query_rules.specs.History.{place_of, replay, maps_at, StandsAt, Precedes, InOrder, IsKindFor, is_write_at, IsLegal, IsHistory}
 use Rattle.query_rules.proofs.ReplyKinds.{said_kind, result_kind}
 use Rattle.query_rules.proofs.Jobs.{run_all_push}
 use Rattle.query_log.specs.Plain.{maps_in, row_count}

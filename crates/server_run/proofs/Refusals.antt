@@ -1,8 +1,8 @@
 -- Bytes that are accepted aren't refused.
-use Rattle.std.proofs.Common.{◌≡◌, ℕ, ◌<◌, ◌≤◌, List, length, Option, Some, None, subst, sym, ◌∙◌, arith, inl, inr}
-use Rattle.std.specs.Prelude.{IfSome, ◌⊎◌}
+use Rattle.std.proofs.Common.{◌≡◌, ℕ, List, Option, Some, None, subst, sym, ◌∙◌, arith, inl, inr}
+use Rattle.std.specs.Prelude.{IfSome}
 use Rattle.query_rules.specs.Grammar.{Asked}
-use Rattle.server_run.specs.Serve.{limit, script_of, IsRefused, IsRefusalOf, IsAccepted}
+use Rattle.server_run.specs.Serve.{script_of, IsRefused, IsRefusalOf, IsAccepted}
 
 some_is_not_none : (o : Option Asked) (s : Asked) → o ≡ Some s → o ≡ None → ⊥
 some_is_not_none o s e n = let both : Some s ≡ None = sym e ∙ n in cc

@@ -1,4 +1,4 @@
-use Rattle.std.proofs.Common.{◌≡◌, ℕ, length}
+use Rattle.std.proofs.Common.{◌≡◌, length}
 use Rattle.query_rules.specs.Maps.{no_keys}
 use Rattle.query_log.specs.Plain.{maps_of}
 use Rattle.query_log.proofs.plain.empty_maps.Given as goal

@@ -1,4 +1,4 @@
-use Rattle.std.proofs.Common.{◌≡◌, ◌≤◌, arith, ap, ◌∙◌, List, length}
+use Rattle.std.proofs.Common.{arith, ap, ◌∙◌, List, length}
 use Rattle.std.proofs.lemmas.List.{take_rest, length-drop}
 use Rattle.ql_base.proofs.Pieces.{all_next}
 use Rattle.query_rules.specs.declared.query.Reply.{Reply}

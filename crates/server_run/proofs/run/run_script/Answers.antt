@@ -1,7 +1,6 @@
 use Rattle.std.proofs.Common.{arith, ap, ◌∙◌, ◌<◌, ◌++◌, [], ◌∷◌, List, length, map, get_or, refl}
 use Rattle.query_rules.specs.declared.query.Query.{Query}
 use Rattle.server_run.specs.declared.desk.Desk.{Desk}
-use Rattle.server_run.specs.Desks.{jobs_of}
 use Rattle.server_run.proofs.HistoryLaws.{told_one, first_desk}
 use Rattle.server_run.proofs.run.run_script.Goals as goal
 

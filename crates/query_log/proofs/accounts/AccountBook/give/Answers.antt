@@ -1,8 +1,7 @@
-use Rattle.std.proofs.Common.{◌≡◌, ℕ, ◌+◌, ◌-◌, ◌<◌, ◌≤◌, ◌^◌, Some, None, length, sym, ap, ◌∙◌, arith, nat_le}
-use Rattle.query_rules.specs.declared.query.LedgerAct.TheVariants as act
-use Rattle.query_rules.specs.Ledger.{Accounts, LedgerResult, balance_at, ran}
-use Rattle.query_log.specs.Book.{Book, place_of}
-use Rattle.query_log.proofs.Places.{there, away, at, given_over, given_now, given_full, given_open}
+use Rattle.std.proofs.Common.{◌≡◌, ℕ, ◌+◌, ◌<◌, ◌≤◌, ◌^◌, Some, sym, ap, ◌∙◌, arith}
+use Rattle.query_rules.specs.Ledger.{Accounts, LedgerResult}
+use Rattle.query_log.specs.Book.{Book}
+use Rattle.query_log.proofs.Places.{there, away, given_over, given_now, given_full, given_open}
 use Rattle.query_log.proofs.accounts.AccountBook.give.Goals as goal
 
 abbrev said : LedgerResult × Accounts → LedgerResult

@@ -1,6 +1,5 @@
-use Rattle.std.proofs.Common.{◌≡◌, ℕ, ◌+◌, ◌<◌, ◌≤◌, ◌^◌, None, Some, [], ◌∷◌, ◌++◌, length, sym, ap, ◌∙◌, arith, cond, not, vec_capacity, nat_eq}
+use Rattle.std.proofs.Common.{◌≡◌, ℕ, ◌<◌, ◌^◌, Some, [], ◌∷◌, ◌++◌, length, sym, ap, ◌∙◌, arith, cond, not, vec_capacity, nat_eq}
 use Rattle.std.specs.HashMap.{get, spare}
-use Rattle.query_rules.specs.declared.query.Account.{Account}
 use Rattle.query_rules.specs.Ledger.{Accounts}
 use Rattle.query_log.specs.Book.{Book, place_of, changed}
 use Rattle.query_log.proofs.Cells.{on_ok_from}

@@ -1,4 +1,4 @@
-use Rattle.std.proofs.Common.{◌≡◌, ℕ, ◌+◌, ◌-◌, ◌<◌, ◌≤◌, ◌^◌, Some, length, get_or, set, sym, ap, ◌∙◌, arith, rules, subst, vec_capacity, nat_eq}
+use Rattle.std.proofs.Common.{◌≡◌, ℕ, ◌+◌, ◌-◌, ◌<◌, ◌^◌, length, set, sym, ap, ◌∙◌, arith, subst, vec_capacity, nat_eq}
 use Rattle.std.specs.HashMap.{get, spare}
 use Rattle.std.proofs.lemmas.List.{get_or_read}
 use Rattle.query_rules.specs.declared.query.Account.{Account}

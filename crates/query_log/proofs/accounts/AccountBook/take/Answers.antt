@@ -1,8 +1,7 @@
-use Rattle.std.proofs.Common.{◌≡◌, ℕ, ◌+◌, ◌-◌, ◌<◌, ◌≤◌, ◌^◌, Some, None, length, sym, ap, ◌∙◌, arith, nat_le}
-use Rattle.query_rules.specs.declared.query.LedgerAct.TheVariants as act
-use Rattle.query_rules.specs.Ledger.{Accounts, LedgerResult, balance_at, ran}
-use Rattle.query_log.specs.Book.{Book, place_of}
-use Rattle.query_log.proofs.Places.{there, away, at, taken_short, taken_now, taken_nothing, taken_zero}
+use Rattle.std.proofs.Common.{ℕ, ◌<◌, ◌≤◌, Some, sym, ap, ◌∙◌, arith}
+use Rattle.query_rules.specs.Ledger.{Accounts, LedgerResult}
+use Rattle.query_log.specs.Book.{Book}
+use Rattle.query_log.proofs.Places.{there, away, taken_short, taken_now, taken_nothing, taken_zero}
 use Rattle.query_log.proofs.accounts.AccountBook.take.Goals as goal
 
 abbrev said : LedgerResult × Accounts → LedgerResult

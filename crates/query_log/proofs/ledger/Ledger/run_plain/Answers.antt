@@ -1,4 +1,4 @@
-use Rattle.std.proofs.Common.{◌≡◌, ℕ, ◌+◌, ◌≤◌, List, [], ◌∷◌, ◌++◌, length, sym, ap, ◌∙◌, arith, cond, not, vec_capacity}
+use Rattle.std.proofs.Common.{◌≡◌, List, [], ◌∷◌, ◌++◌, length, sym, ap, ◌∙◌, arith, cond, not}
 use Rattle.std.proofs.lemmas.List.{length_push}
 use Rattle.query_rules.specs.Ledger.{Accounts, accounts_of}
 use Rattle.query_log.specs.declared.job.LedgerEntry.{LedgerEntry}

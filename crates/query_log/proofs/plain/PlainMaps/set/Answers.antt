@@ -1,6 +1,5 @@
 use Rattle.std.proofs.Common.{refl, ap, ◌∙◌}
 use Rattle.std.proofs.lemmas.List.{length-set}
-use Rattle.std.specs.BTreeMap.{BTreeMap}
 use Rattle.query_log.proofs.Cells.{set_inserted, maps_same, on_err_any}
 use Rattle.query_log.proofs.plain.PlainMaps.set.Goals as goal
 

@@ -1,4 +1,4 @@
-use Rattle.std.proofs.Common.{◌≡◌, ◌+◌, ◌-◌, ◌≢◌, true, false, sym, ap, ◌∙◌, arith, is_some, unwrap_or}
+use Rattle.std.proofs.Common.{◌≡◌, ◌+◌, ◌-◌, true, false, sym, ap, ◌∙◌, arith, is_some, unwrap_or}
 use Rattle.query_rules.specs.Maps.{Maps, with_map, with_value, amount_at}
 use Rattle.query_log.specs.Plain.{maps_in}
 use Rattle.query_log.proofs.Cells.{there_after, moved_some, moved_none}
