@@ -1,0 +1,5 @@
+mod Places
+mod Notes
+mod Meaning
+mod Lists
+mod Drawing
