@@ -182,3 +182,11 @@ places opening c id place e f q is one near holds said reads' ws qs h apart at i
         known = k.known;
       } (λ w. omega arith)),
     )
+
+-- as far as a log row is stored
+pub logged_so_far : (p : Part) (k : ℕ) → p.stored ≡ k → p ≡ logged p k
+logged_so_far p k is = λ i. record { words = p.words; writes = p.writes; seen = p.seen; told = p.told; row = p.row; stored = is i }
+
+-- a write was drawn and its log row is stored
+pub drew_whole : (opening : Maps) (p q r : Part) (w : ℕ) (e : Entry) → Drew opening 0 p q w e → r ≡ logged q 8 → Drew opening 8 p r w e
+drew_whole opening p q r w e h is = subst (λ (z : Part). Drew opening 8 p z w e) (sym is) record { words = h.words; plain = h.plain; fresh = h.fresh; seen = h.seen; told = h.told; row = h.row; stores = refl }

@@ -3,3 +3,4 @@ mod Notes
 mod Meaning
 mod Lists
 mod Drawing
+mod Ended

@@ -2,6 +2,8 @@
 #![tactic(auto)]
 
 pub mod cells;
+pub mod ending;
 pub mod entry;
+pub mod history;
 pub mod size;
 pub mod words;
