@@ -4,10 +4,12 @@ use Rattle.std.proofs.Common.{◌≡◌, ◌≢◌, ◌<◌, ◌≤◌, ◌+◌,
 use mathlib.Core.Logic.{dite}
 use native.Mathlib.Decide.{ℕ_discrete}
 use Rattle.std.proofs.Math.Decide.{dec_lt}
-use Rattle.query_rules.specs.Maps.{PlainMap, with_value, without}
+use Rattle.query_rules.specs.declared.query.Query.{Query}
+use Rattle.query_rules.specs.Maps.{PlainMap, Maps, with_value, without}
+use Rattle.query_rules.specs.History.{maps_after}
 use Rattle.map_cargo.specs.declared.entry.Part.{Part}
 use Rattle.map_cargo.specs.Cells.{used_at, key_at, value_in, Means, lookup}
-use Rattle.map_cargo.specs.History.{words_of}
+use Rattle.map_cargo.specs.History.{Settled, words_of, plain_of}
 use Rattle.map_cargo.specs.Laws.{lookup_here, lookup_else}
 use Rattle.map_cargo.specs.Steps.{rewrote, Reworded}
 
@@ -33,6 +35,15 @@ module _ (m : PlainMap) (key : ℕ) where
 
   without_one : (x : ℕ) → m.value_at key ≡ Some x → (without m key).count ≡ m.count - 1
   without_one x is = ap (λ o. cond (is_some o) (m.count - 1) m.count) is
+
+-- a key that was put in and taken out again leaves the map as it was
+pub restored : (m : PlainMap) (key value : ℕ) → m.value_at key ≡ None → without (with_value m key value) key ≡ m
+restored m key value none =
+    let at : (k : ℕ) → (without (with_value m key value) key).value_at k ≡ m.value_at k = λ k. dite (ℕ_discrete k key)
+        (λ same. subst (λ (z : ℕ). (without (with_value m key value) key).value_at z ≡ m.value_at z) (sym same) (without_here (with_value m key value) key ∙ sym none))
+        (λ ne. without_else (with_value m key value) key k ne ∙ with_else m key value k ne) in
+    let size : (without (with_value m key value) key).count ≡ m.count = without_one (with_value m key value) key value (with_here m key value) ∙ (let more = with_new m key value none in omega arith) in
+    λ i. record { value_at = λ k. at k i; count = size i }
 
 pub found_at : (words : List ℕ) (m : PlainMap) (key row : ℕ) → Means words m → row < m.count → key_at words row ≡ key → m.value_at key ≡ Some (value_in words row)
 found_at words m key row h below is = subst (λ (k : ℕ). m.value_at k ≡ Some (value_in words row)) is (h.there row below)
@@ -234,3 +245,11 @@ del_old p r cell key row last k v before rows made is k_is v_is counts low key_i
       (get_or-set_other w3 0 (3 * last + 1) last 0 (λ e. omega arith) ∙ get_or-set_same w2 (3 * last + 1) 0 0 (omega arith))
       (λ r ne. high (3 * r + 1) (λ e. omega arith) (λ e. ne (omega arith)) ∙ far (3 * r + 1) (λ e. omega arith) (λ e. omega arith)) rest),
     )
+
+-- a key that was put in without a draw and taken out again leaves its cell settled
+pub taken_back : (opening : Maps) (lock cell key value : ℕ) (p q q' r : Part) → lock ≡ cell → Reworded cell p q → None ≡ (plain_of opening p cell).value_at key → q' ≡ q → Reworded cell q' r
+    → Means (words_of r cell) (without (with_value (plain_of opening p cell) key value) key) → Settled opening lock r
+taken_back opening lock cell key value p q q' r at first none same second h =
+    let writes : r.writes ≡ p.writes = second.writes ∙ ap (λ (z : Part). z.writes) same ∙ first.writes in
+    let maps : without (with_value (plain_of opening p cell) key value) key ≡ plain_of opening r cell = restored (plain_of opening p cell) key value (sym none) ∙ ap (λ (l : List (ℕ × List Query)). maps_after opening (lookup [] l cell) cell) (sym writes) in
+    subst (λ (k : ℕ). Settled opening k r) (sym at) (subst (Means (words_of r cell)) maps h)

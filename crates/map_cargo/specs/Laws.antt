@@ -253,3 +253,24 @@ module _ (opening : Maps) where
         refl,
         λ k ne. (lookup_else [] p.words lock k t.0 ne, ap (λ (l : List Query). maps_after opening l k) (lookup_else [] p.writes lock k t.1 ne)),
       )
+
+each_cons : (F : Seat → Type 0) (q : Seat) (qs : List Seat) → F q → Each F qs → Each F (q ∷ qs)
+each_cons F q qs one all zero u e = subst F (some-injective q u e) one
+each_cons F q qs one all (suc j) u e = all j u e
+
+-- nobody holds the cell exclusively, or this seat does
+exclusive_or : (cell : ℕ) (qs : List Seat) → Each (λ q. mode_at q cell ≢ exclusive_mode) qs ⊎ ((j : ℕ) × (q : Seat) × (get_elem? qs j ≡ some q) × (mode_at q cell ≡ exclusive_mode))
+exclusive_or cell [] = inl (λ j q e. absurd (some-ne-none q (sym e)))
+exclusive_or cell (q ∷ qs) = ⊎_elim
+    (λ is. inr (zero, q, refl, is))
+    (λ no. ⊎_elim (λ all. inl (each_cons (λ (u : Seat). mode_at u cell ≢ exclusive_mode) q qs no all)) (λ t. inr (suc t.0, t.1, t.2, t.3)) (exclusive_or cell qs))
+    (is_exclusive (mode_at q cell))
+
+-- a cell that no unsettled pass holds exclusively has its plain map
+pub settled_cells : (opening : Maps) (c : MapCargo) (ws : List ℕ) (qs : List Seat) (h : OneHistory opening c ws qs) (cell : ℕ) → cell < c.cells → Each (λ q. mode_at q cell ≡ exclusive_mode → Settled opening cell q.part) qs
+    → Means (cell_words c ws cell) (maps_after opening (queries h.entries) cell)
+settled_cells opening c ws qs h cell below settled = ⊎_elim
+    (λ nobody. h.calm cell below nobody)
+    (λ t. let has : mode_at t.1 cell ≢ None = λ none. (let bad : None ≡ exclusive_mode = sym none ∙ t.3 in cc) in let k = (h.knows t.0 t.1 t.2).known cell below has in
+    subst (λ (l : List ℕ). Means l (maps_after opening (queries h.entries) cell)) k.0 (subst (λ (m : PlainMap). Means (words_of t.1.part cell) m) k.1 (settled t.0 t.1 t.2 t.3)))
+    (exclusive_or cell qs)

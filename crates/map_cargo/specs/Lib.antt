@@ -3,3 +3,4 @@ pub mod Entries
 pub mod History
 pub mod Laws
 pub mod Steps
+pub mod Gaining

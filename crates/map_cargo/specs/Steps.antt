@@ -5,6 +5,7 @@ use Rattle.lock_model.specs.Locks.{Has}
 use Rattle.hall.specs.Cargo.{exclusive_mode}
 use Rattle.hall.specs.declared.hall.Hall.{Hall}
 use Rattle.hall.specs.declared.view.View.{View}
+use Rattle.hall.specs.declared.view.Standing.TheVariants.{Away}
 use Rattle.hall.specs.Passes.{shape_of, cargo_of}
 use Rattle.hall.specs.Views.{standing, mode_of}
 use Rattle.query_rules.specs.Maps.{Maps, reply_of, is_write, written}
@@ -15,7 +16,7 @@ use Rattle.map_cargo.specs.declared.entry.Told.TheVariants.{Wrote, Read}
 use Rattle.map_cargo.specs.declared.entry.Part.{Part}
 use Rattle.map_cargo.specs.Cells.{number_place, log_place, word_count}
 use Rattle.map_cargo.specs.Entries.{named_cells, spoken_cells, log_words}
-use Rattle.map_cargo.specs.History.{words_of, plain_of, is_wrote, Stands, Rested}
+use Rattle.map_cargo.specs.History.{words_of, plain_of, is_wrote, Stands, Settled, Rested}
 
 -- the hall has as many words as its cargo, which is so of what `make` gives
 abbrev pub Suits : Hall MapCargo Part → Type 0
@@ -59,7 +60,33 @@ logged p k = record { words = p.words; writes = p.writes; seen = p.seen; told = 
 abbrev pub placed : Part → ℕ → Entry → Part
 placed p number e = record { words = p.words; writes = p.writes; seen = number; told = Read number e ∷ p.told; row = p.row; stored = p.stored }
 
+-- a mode was lost: the pass knows what it knew
+pub record Left (v w : View Part) : Type 0 where
+  pub part : w.part ≡ v.part
+  pub number : w.number ≡ v.number
+  pub quota : w.quota ≡ v.quota
+  pub span : w.span ≡ v.span
+  pub taken : w.taken ≡ v.taken
+
+-- a pass between two queries: away from each lock, with no log row half stored
+abbrev pub Idle : View Part → Type 0
+Idle v = ((lock : ℕ) → standing v lock ≡ Away) × Rested v.part
+
 module _ (opening : Maps) where
+  -- a mode was gained at a lock: its cell is settled, and all else that the pass knows stays
+  pub record Gained (lock : ℕ) (v w : View Part) : Type 0 where
+    pub settled : Settled opening lock w.part
+    pub words : (k : ℕ) → k ≢ lock → words_of w.part k ≡ words_of v.part k
+    pub plain : (k : ℕ) → k ≢ lock → plain_of opening w.part k ≡ plain_of opening v.part k
+    pub seen : w.part.seen ≡ v.part.seen
+    pub told : w.part.told ≡ v.part.told
+    pub row : w.part.row ≡ v.part.row
+    pub stored : w.part.stored ≡ v.part.stored
+    pub number : w.number ≡ v.number
+    pub quota : w.quota ≡ v.quota
+    pub span : w.span ≡ v.span
+    pub taken : w.taken ≡ v.taken
+
   -- a write was drawn, and so many words of its log row are stored: its plain maps are those that the write leaves, and it has a number that the pass hadn't seen
   pub record Drew (stored : ℕ) (p q : Part) (number : ℕ) (e : Entry) : Type 0 where
     pub words : q.words ≡ p.words
