@@ -1,24 +1,22 @@
 -- Drawing a write, storing its log row and placing a read keep one history.
-use Rattle.std.proofs.Common.{◌≡◌, ◌≢◌, ◌<◌, ◌≤◌, ◌+◌, ◌*◌, ◌%◌, ◌^◌, ℕ, List, [], ◌∷◌, length, set, get_or, cond, Bool, true, false, sym, refl, ap, ◌∙◌, subst, ⊎_elim, inl, inr, eq-eqb, ne_eqb, arith, length-set, get_or-set_same, get_or-set_other, Option, Some, None}
+use Rattle.std.proofs.Common.{◌≡◌, ◌≢◌, ◌<◌, ◌≤◌, ◌+◌, ◌%◌, ◌^◌, ℕ, List, [], ◌∷◌, length, set, get_or, cond, true, false, sym, refl, ap, ◌∙◌, subst, ⊎_elim, eq-eqb, ne_eqb, arith, length-set, get_or-set_same, get_or-set_other, Option, Some, None}
 use Rattle.std.proofs.lemmas.List.{set-get_or}
 use mathlib.Core.Logic.{dite}
-use mathlib.Core.Option.{some}
 use native.Mathlib.Decide.{ℕ_discrete}
-use lib.ListN.{get_elem?}
 use Rattle.atomic_table.proofs.Lists.{at_set, set_here}
 use Rattle.view_sums.specs.Sums.{total, total-set, total-same, term_le, there}
 use Rattle.lock_model.specs.Locks.{Has}
 use Rattle.lock_model.specs.declared.model.Mode.{Mode}
 use Rattle.hall.specs.Cargo.{Together, Notes, noted_seat, exclusive_mode}
 use Rattle.query_rules.specs.declared.query.Query.{Query}
-use Rattle.query_rules.specs.Maps.{PlainMap, Maps, reply_of, is_write, written}
+use Rattle.query_rules.specs.Maps.{Maps, reply_of, is_write, written}
 use Rattle.query_rules.specs.History.{maps_after}
 use Rattle.map_cargo.specs.declared.size.MapCargo.{MapCargo}
 use Rattle.map_cargo.specs.declared.entry.Entry.{Entry}
 use Rattle.map_cargo.specs.declared.entry.Told.{Told}
 use Rattle.map_cargo.specs.declared.entry.Told.TheVariants.{Wrote, Read}
 use Rattle.map_cargo.specs.declared.entry.Part.{Part}
-use Rattle.map_cargo.specs.Cells.{number_place, log_place, cell_words, Means, lookup}
+use Rattle.map_cargo.specs.Cells.{number_place, log_place, cell_words, Means}
 use Rattle.map_cargo.specs.Entries.{queries, named_cells, spoken_cells, log_words}
 use Rattle.map_cargo.specs.History.{Seat, Stands, WrittenAs, is_wrote, stored, mode_at, plain_of, Knows, OneHistory, Rested}
 use Rattle.map_cargo.specs.Laws.{each_back, all_stored}
@@ -122,9 +120,9 @@ logs opening c id place value n k k' e q is one few row is_stored mine' same ws 
     let far : (cell : ℕ) → cell < c.cells → cell_words c ws' cell ≡ cell_words c ws cell = λ cell low. cell_far c ws cell place value low (omega arith) in
     let own : WrittenAs opening c.rows E n e = k0.told (Wrote n e) mine' in
     let here : (w j : ℕ) (x : Entry) → j < 8 → log_place c w j ≡ place → WrittenAs opening c.rows E w x → get_or ws' (log_place c w j) 0 ≡ get_or (log_words x) j 0 = λ w j x small p s.
-        let same_w : w ≡ n = omega arith in let same_j : j ≡ k = omega arith in
-        let same_x : x ≡ e = one_entry (subst (λ (z : ℕ). WrittenAs opening c.rows E z x) same_w s) own in
-        ap (λ (z : ℕ). get_or ws' z 0) p ∙ get_or-set_same ws place value 0 in' ∙ same ∙ (λ i. get_or (log_words (sym same_x i)) (sym same_j i) 0) in
+    let same_w : w ≡ n = omega arith in let same_j : j ≡ k = omega arith in
+    let same_x : x ≡ e = one_entry (subst (λ (z : ℕ). WrittenAs opening c.rows E z x) same_w s) own in
+    ap (λ (z : ℕ). get_or ws' z 0) p ∙ get_or-set_same ws place value 0 in' ∙ same ∙ (λ i. get_or (log_words (sym same_x i)) (sym same_j i) 0) in
     let else' : (w j : ℕ) → log_place c w j ≢ place → get_or ws' (log_place c w j) 0 ≡ get_or ws (log_place c w j) 0 = λ w j ne. get_or-set_other ws place (log_place c w j) value 0 ne in (
       part,
       ap (λ (z : ℕ). logged q.part (z + 1)) one,

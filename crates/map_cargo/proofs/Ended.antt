@@ -1,5 +1,5 @@
 -- What is known at the end: the replies are one legal history.
-use Rattle.std.proofs.Common.{◌≡◌, ◌≢◌, ◌<◌, ◌≤◌, ◌+◌, ◌*◌, ◌/◌, ◌%◌, ◌==◌, ℕ, zero, suc, List, [], ◌∷◌, ◌++◌, length, map, take, reverse, slice_get, count_by, get_or, Bool, true, false, cond, eqb, sym, refl, ap, ◌∙◌, subst, ⊎_elim, inl, inr, arith, eq-eqb, ne_eqb, Option, Some, None}
+use Rattle.std.proofs.Common.{◌≡◌, ◌≢◌, ◌<◌, ◌+◌, ◌*◌, ◌/◌, ◌%◌, ◌==◌, ℕ, zero, suc, List, [], ◌∷◌, ◌++◌, length, map, take, reverse, slice_get, count_by, true, false, cond, sym, refl, ap, ◌∙◌, subst, inl, inr, arith, eq-eqb, ne_eqb, Some}
 use Rattle.std.proofs.lemmas.List.{reverse-append, length-reverse, append_assoc, length-append}
 use Rattle.std.proofs.lemmas.List.Sums.{sum_by-cons}
 use Rattle.std.proofs.Math.Seq.{take-append_seam}
@@ -11,11 +11,10 @@ use lib.ListN.{get_elem?}
 use Rattle.view_sums.specs.Sums.{total}
 use Rattle.lock_model.specs.Locks.{Has}
 use Rattle.query_rules.specs.declared.query.Query.{Query}
-use Rattle.query_rules.specs.declared.query.Said.{Said}
 use Rattle.query_rules.specs.declared.query.Reply.{Reply}
 use Rattle.query_rules.specs.declared.query.Reply.TheVariants.{Placed}
-use Rattle.query_rules.specs.Maps.{Maps, reply_of, is_write, written}
-use Rattle.query_rules.specs.History.{place_of, maps_after, replay, maps_at, StandsAt, IsLegal, is_write_at}
+use Rattle.query_rules.specs.Maps.{Maps, reply_of, written}
+use Rattle.query_rules.specs.History.{maps_after, replay, maps_at, StandsAt, IsLegal, is_write_at}
 use Rattle.map_cargo.specs.declared.size.MapCargo.{MapCargo}
 use Rattle.map_cargo.specs.declared.entry.Entry.{Entry}
 use Rattle.map_cargo.specs.declared.entry.Told.{Told}

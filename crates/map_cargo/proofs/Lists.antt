@@ -1,5 +1,5 @@
 -- Lists of entries, and the cells of a query.
-use Rattle.std.proofs.Common.{◌≡◌, ◌≢◌, ◌<◌, ◌≤◌, ◌+◌, ◌-◌, ◌⊎◌, ℕ, List, [], ◌∷◌, ◌++◌, length, cond, eqb, Bool, true, false, is_some, suc, zero, sym, refl, ap, ◌∙◌, subst, ⊎_elim, inl, inr, eq-eqb, ne_eqb, arith, Option, Some, None}
+use Rattle.std.proofs.Common.{◌≡◌, ◌<◌, ◌≤◌, ◌+◌, ◌⊎◌, ℕ, List, [], ◌∷◌, ◌++◌, length, cond, eqb, Bool, true, false, suc, zero, sym, refl, ap, ◌∙◌, subst, ⊎_elim, inl, inr, ne_eqb, arith, Some}
 use Rattle.std.proofs.lemmas.List.{length-append}
 use mathlib.Core.Logic.{dite}
 use mathlib.Core.Option.{some, some-injective, some-ne-none}
@@ -10,9 +10,8 @@ use Rattle.view_sums.specs.Sums.{total, find}
 use Rattle.lock_model.specs.Locks.{Has}
 use Rattle.query_rules.specs.declared.query.Query.{Query}
 use Rattle.query_rules.specs.declared.query.Query.TheVariants.{Get, Len, Put, Del, Add, Cas, PutLen, Move, Both, TryGet, TryPut, GetBy, PutBy, Give, Take, Audit}
-use Rattle.query_rules.specs.declared.query.Said.{Said}
 use Rattle.query_rules.specs.declared.query.Said.TheVariants.{Count, Same, Pair}
-use Rattle.query_rules.specs.Maps.{PlainMap, Maps, reply_of, is_write, written, get_says, put_says, del_says, add_says, cas_says, put_len_says, move_says, with_value, without, less, amount_at, is_full}
+use Rattle.query_rules.specs.Maps.{PlainMap, Maps, reply_of, written, get_says, put_says, del_says, add_says, cas_says, put_len_says, move_says, with_value, without, less, amount_at, is_full}
 use Rattle.map_cargo.specs.declared.entry.Entry.{Entry}
 use Rattle.map_cargo.specs.declared.entry.Told.{Told}
 use Rattle.map_cargo.specs.declared.entry.Told.TheVariants.{Wrote, Read}

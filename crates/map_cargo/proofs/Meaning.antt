@@ -1,6 +1,6 @@
 -- What a store of a word makes of the map that a cell's words mean.
 use Rattle.std.specs.Prelude.{MatchOption}
-use Rattle.std.proofs.Common.{◌≡◌, ◌≢◌, ◌<◌, ◌≤◌, ◌+◌, ◌-◌, ◌*◌, ◌⊎◌, ℕ, List, [], ◌∷◌, length, set, get_or, cond, eqb, nat_lt, Bool, true, false, is_some, sym, refl, ap, ◌∙◌, subst, ⊎_elim, inl, inr, eq-eqb, ne_eqb, arith, length-set, get_or-set_same, get_or-set_other, lt-ltb, le-ltb, Option, Some, None}
+use Rattle.std.proofs.Common.{◌≡◌, ◌≢◌, ◌<◌, ◌≤◌, ◌+◌, ◌-◌, ◌*◌, ◌⊎◌, ℕ, List, [], length, set, get_or, cond, eqb, nat_lt, is_some, sym, refl, ap, ◌∙◌, subst, ⊎_elim, inl, inr, eq-eqb, ne_eqb, arith, length-set, get_or-set_same, get_or-set_other, lt-ltb, le-ltb, Option, Some, None}
 use mathlib.Core.Logic.{dite}
 use native.Mathlib.Decide.{ℕ_discrete}
 use Rattle.std.proofs.Math.Decide.{dec_lt}
@@ -40,8 +40,8 @@ module _ (m : PlainMap) (key : ℕ) where
 pub restored : (m : PlainMap) (key value : ℕ) → m.value_at key ≡ None → without (with_value m key value) key ≡ m
 restored m key value none =
     let at : (k : ℕ) → (without (with_value m key value) key).value_at k ≡ m.value_at k = λ k. dite (ℕ_discrete k key)
-        (λ same. subst (λ (z : ℕ). (without (with_value m key value) key).value_at z ≡ m.value_at z) (sym same) (without_here (with_value m key value) key ∙ sym none))
-        (λ ne. without_else (with_value m key value) key k ne ∙ with_else m key value k ne) in
+    (λ same. subst (λ (z : ℕ). (without (with_value m key value) key).value_at z ≡ m.value_at z) (sym same) (without_here (with_value m key value) key ∙ sym none))
+    (λ ne. without_else (with_value m key value) key k ne ∙ with_else m key value k ne) in
     let size : (without (with_value m key value) key).count ≡ m.count = without_one (with_value m key value) key value (with_here m key value) ∙ (let more = with_new m key value none in omega arith) in
     λ i. record { value_at = λ k. at k i; count = size i }
 
@@ -231,19 +231,19 @@ del_old p r cell key row last k v before rows made is k_is v_is counts low key_i
     let high : (i : ℕ) → i ≢ 0 → i ≢ 3 * last + 1 → get_or w4 i 0 ≡ get_or w2 i 0 = λ i a b. get_or-set_other w3 0 i last 0 a ∙ get_or-set_other w2 (3 * last + 1) i 0 0 b in
     let far : (i : ℕ) → i ≢ 3 * row + 2 → i ≢ 3 * row + 3 → get_or w2 i 0 ≡ get_or w0 i 0 = λ i a b. get_or-set_other w1 (3 * row + 3) i v 0 b ∙ get_or-set_other w0 (3 * row + 2) i k 0 a in
     let rest : (r : ℕ) → r < last → (key_at w4 r ≡ key_at w0 (source row last r)) × (value_in w4 r ≡ value_in w0 (source row last r)) = λ r low. ⊎_elim
-        (λ t. let a = t.0 in let b = t.1 in (
-          high (3 * r + 2) (λ e. omega arith) (λ e. omega arith) ∙ ap (λ (z : ℕ). get_or w2 (3 * z + 2) 0) a ∙ get_or-set_other w1 (3 * row + 3) (3 * row + 2) v 0 (λ e. omega arith) ∙ get_or-set_same w0 (3 * row + 2) k 0 (omega arith) ∙ k_is ∙ ap (key_at w0) (sym b),
-          high (3 * r + 3) (λ e. omega arith) (λ e. omega arith) ∙ ap (λ (z : ℕ). get_or w2 (3 * z + 3) 0) a ∙ get_or-set_same w1 (3 * row + 3) v 0 (omega arith) ∙ v_is ∙ ap (value_in w0) (sym b),
-        ))
-        (λ t. let a = t.0 in let b = t.1 in (
-          high (3 * r + 2) (λ e. omega arith) (λ e. omega arith) ∙ far (3 * r + 2) (λ e. a (omega arith)) (λ e. omega arith) ∙ ap (key_at w0) (sym b),
-          high (3 * r + 3) (λ e. omega arith) (λ e. omega arith) ∙ far (3 * r + 3) (λ e. omega arith) (λ e. a (omega arith)) ∙ ap (value_in w0) (sym b),
-        ))
-        (source_cases row last r low) in (
+    (λ t. let a = t.0 in let b = t.1 in (
+      high (3 * r + 2) (λ e. omega arith) (λ e. omega arith) ∙ ap (λ (z : ℕ). get_or w2 (3 * z + 2) 0) a ∙ get_or-set_other w1 (3 * row + 3) (3 * row + 2) v 0 (λ e. omega arith) ∙ get_or-set_same w0 (3 * row + 2) k 0 (omega arith) ∙ k_is ∙ ap (key_at w0) (sym b),
+      high (3 * r + 3) (λ e. omega arith) (λ e. omega arith) ∙ ap (λ (z : ℕ). get_or w2 (3 * z + 3) 0) a ∙ get_or-set_same w1 (3 * row + 3) v 0 (omega arith) ∙ v_is ∙ ap (value_in w0) (sym b),
+    ))
+    (λ t. let a = t.0 in let b = t.1 in (
+      high (3 * r + 2) (λ e. omega arith) (λ e. omega arith) ∙ far (3 * r + 2) (λ e. a (omega arith)) (λ e. omega arith) ∙ ap (key_at w0) (sym b),
+      high (3 * r + 3) (λ e. omega arith) (λ e. omega arith) ∙ far (3 * r + 3) (λ e. omega arith) (λ e. a (omega arith)) ∙ ap (value_in w0) (sym b),
+    ))
+    (source_cases row last r low) in (
       found_at w0 m key row h low' key_is ∙ ap Some (sym is),
       subst (λ (z : List ℕ). Means z (without m key)) (sym (ap (λ (z : Part). words_of z cell) made ∙ four_words p cell (3 * row + 2) k (3 * row + 3) v (3 * last + 1) 0 0 last)) (removed w0 w4 m key row last h size low' key_is (get_or-set_same w3 0 last 0 (omega arith)) (omega arith)
-      (get_or-set_other w3 0 (3 * last + 1) last 0 (λ e. omega arith) ∙ get_or-set_same w2 (3 * last + 1) 0 0 (omega arith))
-      (λ r ne. high (3 * r + 1) (λ e. omega arith) (λ e. ne (omega arith)) ∙ far (3 * r + 1) (λ e. omega arith) (λ e. omega arith)) rest),
+          (get_or-set_other w3 0 (3 * last + 1) last 0 (λ e. omega arith) ∙ get_or-set_same w2 (3 * last + 1) 0 0 (omega arith))
+          (λ r ne. high (3 * r + 1) (λ e. omega arith) (λ e. ne (omega arith)) ∙ far (3 * r + 1) (λ e. omega arith) (λ e. omega arith)) rest),
     )
 
 -- a key that was put in without a draw and taken out again leaves its cell settled

@@ -87,11 +87,11 @@ starts c ws q quota size none off admits quota_is part_is = record {
   few = admits.1;
   knows = λ j r e. elim j as (λ i. get_elem? (q ∷ []) i ≡ some r → Knows no_entries c [] ws r) [
     | zero ↦ λ e. subst (Knows no_entries c [] ws) (some-injective q r e) record {
-        seen = subst (λ (p : Part). p.seen ≤ 0) (sym part_is) (omega arith);
-        told = subst (λ (p : Part). (t : Told) → Has p.told t → Stands no_entries c.rows [] t) (sym part_is) (λ t bad. absurd bad);
-        logged = subst (λ (p : Part). (w : ℕ) (e : Entry) → Has p.told (Wrote w e) → (j : ℕ) → j < 8 → j < stored p w → slice_index ws (log_place c w j) ≡ slice_index (log_words e) j) (sym part_is) (λ w e bad. absurd bad);
-        known = λ cell below has. absurd (has (off cell));
-      }
+      seen = subst (λ (p : Part). p.seen ≤ 0) (sym part_is) (omega arith);
+      told = subst (λ (p : Part). (t : Told) → Has p.told t → Stands no_entries c.rows [] t) (sym part_is) (λ t bad. absurd bad);
+      logged = subst (λ (p : Part). (w : ℕ) (e : Entry) → Has p.told (Wrote w e) → (j : ℕ) → j < 8 → j < stored p w → slice_index ws (log_place c w j) ≡ slice_index (log_words e) j) (sym part_is) (λ w e bad. absurd bad);
+      known = λ cell below has. absurd (has (off cell));
+    }
     | suc i ↦ λ e. absurd (some-ne-none r (sym e))
   ] e;
   once = λ w bad. absurd (omega arith);

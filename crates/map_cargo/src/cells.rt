@@ -54,12 +54,7 @@ impl<K: Spot> Note<MapCargo> for Wrote<K> {
     ghost becomes = { λ found p q. (q ≡ rewrote p K.cell K.index K.value) × (length (words_of p K.cell) ≡ K.width) };
 }
 
-fn word_by<K: Spot>(
-    hall: &Hall<MapCargo>,
-    pass: &mut Pass<MapCargo>,
-    cell: u64,
-    index: u64,
-) -> u64
+fn word_by<K: Spot>(hall: &Hall<MapCargo>, pass: &mut Pass<MapCargo>, cell: u64, index: u64) -> u64
     requires pass { IsPassOf hall.now pass.old }
     requires suits { Suits hall.now }
     requires cell { (cell < (cargo_of hall.now).cells) × (cell ≡ K.cell) }
@@ -146,12 +141,7 @@ pub fn len(hall: &Hall<MapCargo>, pass: &mut Pass<MapCargo>, cell: u64) -> u64
 }
 
 /// The row of a key, where it has one, and how many rows there are.
-fn find(
-    hall: &Hall<MapCargo>,
-    pass: &mut Pass<MapCargo>,
-    cell: u64,
-    key: u64,
-) -> (Option<u64>, u64)
+fn find(hall: &Hall<MapCargo>, pass: &mut Pass<MapCargo>, cell: u64, key: u64) -> (Option<u64>, u64)
     requires pass { IsPassOf hall.now pass.old }
     requires suits { Suits hall.now }
     requires cell { cell < (cargo_of hall.now).cells }
@@ -175,12 +165,7 @@ fn find(
 }
 
 /// The value of a key in a cell, which the pass holds in any mode. It looks at up to as many rows as the cell has keys.
-pub fn get(
-    hall: &Hall<MapCargo>,
-    pass: &mut Pass<MapCargo>,
-    cell: u64,
-    key: u64,
-) -> Option<u64>
+pub fn get(hall: &Hall<MapCargo>, pass: &mut Pass<MapCargo>, cell: u64, key: u64) -> Option<u64>
     requires pass { IsPassOf hall.now pass.old }
     requires suits { Suits hall.now }
     requires cell { cell < (cargo_of hall.now).cells }
@@ -242,12 +227,7 @@ pub fn put(
 
 /// Removes a key from a cell that the pass holds exclusively, and answers the value that it had; the last row moves into the
 /// gap. `None` changes nothing. It looks at up to as many rows as the cell has keys.
-pub fn del(
-    hall: &Hall<MapCargo>,
-    pass: &mut Pass<MapCargo>,
-    cell: u64,
-    key: u64,
-) -> Option<u64>
+pub fn del(hall: &Hall<MapCargo>, pass: &mut Pass<MapCargo>, cell: u64, key: u64) -> Option<u64>
     requires pass { IsPassOf hall.now pass.old }
     requires suits { Suits hall.now }
     requires cell { cell < (cargo_of hall.now).cells }

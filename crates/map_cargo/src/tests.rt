@@ -198,12 +198,7 @@ fn ask_get<A: Abort>(
 }
 
 // One count of the keys from the lock to its release.
-fn ask_len<A: Abort>(
-    rt: &A,
-    hall: &Hall<MapCargo>,
-    pass: &mut Pass<MapCargo>,
-    cell: u64,
-) -> Said
+fn ask_len<A: Abort>(rt: &A, hall: &Hall<MapCargo>, pass: &mut Pass<MapCargo>, cell: u64) -> Said
     requires pass { IsPassOf hall.now pass.old × Suits hall.now }
     requires cell { (cell < (cargo_of hall.now).cells) × (cell < (shape_of hall.now).locks) }
     requires idle { Idle (view pass.old) }
@@ -227,9 +222,7 @@ fn one_write_and_one_read(rt: HostRuntime) {
         writes: 1,
     };
     let made = Hall::make(rt.alloc(), 1, 32, Policy::WritePriority, 1, 1, cargo);
-    let Ok((hall, first)) = made else {
-        rt.abort()
-    };
+    let Ok((hall, first)) = made else { rt.abort() };
     let mut pass = first;
     let guard = exclusive(&rt, &hall, &mut pass, 0);
     let Ok(None) = put(&hall, &mut pass, 0, 7, 5) else {
@@ -275,9 +268,7 @@ fn a_small_table_of_queries(rt: HostRuntime) {
         writes: 20,
     };
     let made = Hall::make(rt.alloc(), 2, 1, Policy::ReadPriority, 1, 20, cargo);
-    let Ok((hall, first)) = made else {
-        rt.abort()
-    };
+    let Ok((hall, first)) = made else { rt.abort() };
     let mut pass = first;
     assert_eq!(rt; ask_put(&rt, &hall, &mut pass, 1, 1, 10), Said::New);
     assert_eq!(rt; ask_put(&rt, &hall, &mut pass, 1, 1, 11), Said::Old(10));
@@ -304,9 +295,7 @@ fn no_quota(rt: HostRuntime) {
         writes: 1,
     };
     let made = Hall::make(rt.alloc(), 1, 1, Policy::WritePriority, 1, 0, cargo);
-    let Ok((hall, first)) = made else {
-        rt.abort()
-    };
+    let Ok((hall, first)) = made else { rt.abort() };
     let mut pass = first;
     let guard = exclusive(&rt, &hall, &mut pass, 0);
     let Ok(None) = put(&hall, &mut pass, 0, 7, 5) else {
@@ -327,19 +316,19 @@ fn no_quota(rt: HostRuntime) {
     leave(&hall, &mut pass, guard);
     let closed = close(hall, pass);
     for place in 0..16 {
-        let left = if place == 2 { 7 } else if place == 3 { 5 } else { 0 };
+        let left = if place == 2 {
+            7
+        } else if place == 3 {
+            5
+        } else {
+            0
+        };
         assert_eq!(rt; closed.word(place), left);
     }
 }
 
 // Fills a cell, a write for each key.
-fn fill<A: Abort>(
-    rt: &A,
-    hall: &Hall<MapCargo>,
-    pass: &mut Pass<MapCargo>,
-    cell: u64,
-    times: u64,
-)
+fn fill<A: Abort>(rt: &A, hall: &Hall<MapCargo>, pass: &mut Pass<MapCargo>, cell: u64, times: u64)
     requires pass { IsPassOf hall.now pass.old × Suits hall.now }
     requires cell { (cell < (cargo_of hall.now).cells) × (cell < (shape_of hall.now).locks) }
     requires idle { Idle (view pass.old) }
@@ -392,9 +381,7 @@ fn two_threads_on_two_cells(rt: HostRuntime) {
         writes: 200,
     };
     let made = Hall::make(rt.alloc(), 2, 4, Policy::WritePriority, 2, 200, cargo);
-    let Ok((hall, first)) = made else {
-        rt.abort()
-    };
+    let Ok((hall, first)) = made else { rt.abort() };
     let mut first = first;
     let second = hall.split(&mut first, 1, 100);
     let (left, right) = by_two_threads(&rt, &hall, first, second);

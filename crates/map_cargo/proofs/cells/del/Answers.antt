@@ -1,7 +1,6 @@
-use Rattle.std.proofs.Common.{rules, arith, ◌≡◌, ◌<◌, ◌+◌, ◌-◌, ◌*◌, ℕ, List, None, ◌∙◌, sym, refl, ap, subst, length, get_or}
+use Rattle.std.proofs.Common.{arith, ◌≡◌, ◌<◌, ◌+◌, ◌-◌, ◌*◌, ℕ, List, ◌∙◌, ap, get_or}
 use Rattle.hall.specs.Passes.{view, cargo_of}
-use Rattle.map_cargo.specs.Cells.{key_at, value_in, Means}
-use Rattle.query_rules.specs.Maps.{without}
+use Rattle.map_cargo.specs.Cells.{key_at}
 use Rattle.map_cargo.specs.declared.entry.Part.{Part}
 use Rattle.map_cargo.specs.History.{words_of}
 use Rattle.map_cargo.specs.Steps.{rewrote}
@@ -19,10 +18,10 @@ returns-in-Some-default-clause-del c =
     let same2 : (view c.word-last_key.new.pass).part ≡ (view c.args.pass.now).part = y.part ∙ same in
     let same3 : (view c.word-last_value.new.pass).part ≡ (view c.args.pass.now).part = z.part ∙ same2 in
     del_old _ _ k c.args.key row (n - 1) _ _ _ ((cargo_of c.args.hall.now).rows) (e4.part ∙ ap (λ (p : Part). rewrote p k 0 (n - 1)) (e3.part ∙ ap (λ (p : Part). rewrote p k (3 * (n - 1) + 1) 0) (e2.part ∙ ap (λ (p : Part). rewrote p k (3 * row + 3) c.word-last_value.result) (e1.part ∙ ap (λ (p : Part). rewrote p k (3 * row + 2) c.word-last_key.result) same3))))
-        (b.word ∙ ap (λ (p : Part). get_or (words_of p k) (3 * row + 3) 0) c.find.ensures.part)
-        (y.word ∙ ap (λ (p : Part). get_or (words_of p k) (3 * (n - 1) + 2) 0) same)
-        (z.word ∙ ap (λ (p : Part). get_or (words_of p k) (3 * (n - 1) + 3) 0) same2)
-        (let a = count.0 in omega (arith, c.find.ensures.count.0)) (omega arith) t.1 c.find.ensures.length (omega arith)
+    (b.word ∙ ap (λ (p : Part). get_or (words_of p k) (3 * row + 3) 0) c.find.ensures.part)
+    (y.word ∙ ap (λ (p : Part). get_or (words_of p k) (3 * (n - 1) + 2) 0) same)
+    (z.word ∙ ap (λ (p : Part). get_or (words_of p k) (3 * (n - 1) + 3) 0) same2)
+    (let a = count.0 in omega (arith, c.find.ensures.count.0)) (omega arith) t.1 c.find.ensures.length (omega arith)
 
 pub returns-in-None-default-clause-del : goal.returns-in-None-default-clause-del
 returns-in-None-default-clause-del c =

@@ -1,9 +1,8 @@
-use Rattle.std.proofs.Common.{◌-◌, ◌≡◌, ◌≢◌, ◌<◌, ◌≤◌, ◌∷◌, ℕ, length, slice_index, None, MatchResult, MatchOption, ◌+◌, ◌*◌}
-use Rattle.hall.specs.Passes.{view, IsPassOf, cargo_of}
-use Rattle.hall.specs.Views.{standing, mode_of}
-use Rattle.map_cargo.specs.Cells.{width, key_at, Means}
+use Rattle.std.proofs.Common.{◌-◌, ◌≡◌, ◌≢◌, ◌<◌, ◌≤◌, ℕ}
+use Rattle.hall.specs.Passes.{view, IsPassOf}
+use Rattle.map_cargo.specs.Cells.{key_at}
 use Rattle.map_cargo.specs.History.{words_of}
-use Rattle.map_cargo.specs.Steps.{Suits, Alike, Reworded, rewrote}
+use Rattle.map_cargo.specs.Steps.{Alike}
 use Rattle.map_cargo.proofs.cells.find.Given as goal
 
 abbrev pub invariant-loop-row : goal.invariant-loop-row

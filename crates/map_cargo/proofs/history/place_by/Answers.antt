@@ -1,4 +1,4 @@
-use Rattle.std.proofs.Common.{◌∙◌, sym, refl, rules, arith}
+use Rattle.std.proofs.Common.{◌∙◌, sym, rules}
 use Rattle.std.proofs.Math.ListN.{get_or-map}
 use Rattle.hall.specs.Views.{mode_of}
 use Rattle.hall.specs.declared.view.Standing.TheVariants.{Away}

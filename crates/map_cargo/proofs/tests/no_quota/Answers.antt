@@ -22,4 +22,4 @@ leave-requires-clause-settled g c =
     let same = c.in-Err.ensures.drawn.1 in
     let d = c.in-Some-eq5.ensures.del (with_value m 7 5) (subst (λ (v : View Part). Means (words_of v.part 0) (with_value m 7 5)) (sym same) t.2) in
     taken_back no_entries c.exclusive-guard.result.lock 0 7 5 (view c.exclusive-guard.new.pass).part (view c.put.new.pass).part (view c.draw.new.pass).part (view c.del.new.pass).part
-        x.held.0 c.in-Ok-None.ensures.part (sym c.in-Ok-None.field-0-is ∙ t.0) (ap (λ (v : View Part). v.part) same) c.in-Some-eq5.ensures.part d.1
+    x.held.0 c.in-Ok-None.ensures.part (sym c.in-Ok-None.field-0-is ∙ t.0) (ap (λ (v : View Part). v.part) same) c.in-Some-eq5.ensures.part d.1
