@@ -16,7 +16,7 @@ use hall::{Hall, Note, Pass};
 use std::marker::{Brand, PhantomData};
 
 /// The word and the value of one call. The call picks them.
-pub trait Spot {
+pub(crate) trait Spot {
     ghost use Rattle.std.specs.Prelude.{ℕ};
 
     ghost cell: { ℕ };
@@ -38,7 +38,7 @@ impl Spot for Brand {
     ghost width = { 0 };
 }
 
-pub struct Saw<K> {
+pub(crate) struct Saw<K> {
     marker: PhantomData<K>,
 }
 
@@ -46,7 +46,7 @@ impl<K: Spot> Note<MapCargo> for Saw<K> {
     ghost becomes = { λ found p q. (q ≡ p) × (found ≡ slice_index (words_of p K.cell) K.index) × (length (words_of p K.cell) ≡ K.width) };
 }
 
-pub struct Wrote<K> {
+pub(crate) struct Wrote<K> {
     marker: PhantomData<K>,
 }
 

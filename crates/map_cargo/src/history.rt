@@ -17,7 +17,7 @@ use query_rules::Query;
 use std::marker::{Brand, PhantomData};
 
 /// The entry of one call, which word of its log row, and how many rows there are. The call picks them.
-pub trait Line {
+pub(crate) trait Line {
     ghost use Rattle.std.specs.Prelude.{ℕ};
     ghost use Rattle.map_cargo.specs.declared.entry.Entry.{Entry};
 
@@ -36,7 +36,7 @@ impl Line for Brand {
     ghost writes = { 0 };
 }
 
-pub struct Draws<K> {
+pub(crate) struct Draws<K> {
     marker: PhantomData<K>,
 }
 
@@ -44,7 +44,7 @@ impl<K: Line> Note<MapCargo> for Draws<K> {
     ghost becomes = { λ found p q. Drew no_entries 0 p q found K.entry × (found < K.writes) };
 }
 
-pub struct Logs<K> {
+pub(crate) struct Logs<K> {
     marker: PhantomData<K>,
 }
 
@@ -52,7 +52,7 @@ impl<K: Line> Note<MapCargo> for Logs<K> {
     ghost becomes = { λ found p q. q ≡ logged p (K.index + 1) };
 }
 
-pub struct Places<K> {
+pub(crate) struct Places<K> {
     marker: PhantomData<K>,
 }
 
@@ -65,11 +65,11 @@ impl<K: Line> Note<MapCargo> for Places<K> {
 pub struct QuotaSpent;
 
 // The words of an entry's log row: caller + 1, index, code of the query, cell, second cell, key and two numbers.
-fn row_of(entry: &Entry) -> [u64; 8]
-    requires { entry.now.caller < 2 ^ 20 }
+fn row_of(entry: &Entry, caller: u64) -> [u64; 8]
+    requires { (caller ≡ entry.now.caller) × (caller < 2 ^ 20) }
     ensures { result ≡ log_words entry.now }
 {
-    let caller = entry.caller + 1;
+    let caller = caller + 1;
     let index = entry.index;
     match entry.query {
         Query::Put { cell, key, value } => [caller, index, 1, cell, 0, key, value, 0],
@@ -173,11 +173,11 @@ fn log_row(hall: &Hall<MapCargo>, pass: &mut Pass<MapCargo>, entry: &Entry, numb
     requires suits { Suits hall.now }
     requires number { (number < (cargo_of hall.now).writes) × (number ≡ (view pass.old).part.row) }
     requires stored { (view pass.old).part.stored ≡ 0 }
-    requires entry { Has (view pass.old).part.told (told.Wrote number entry.now) × (entry.now.caller < 2 ^ 20) }
+    requires entry { Has (view pass.old).part.told (told.Wrote number entry.now) × (entry.now.caller ≡ (view pass.old).number) }
     ensures pass { IsPassOf hall.now pass.new × Alike (view pass.old) (view pass.new) }
     ensures part { (view pass.new).part ≡ logged (view pass.old).part 8 }
 {
-    let words = row_of(entry);
+    let words = row_of(entry, pass.number());
     for index in 0..8 {
         log(hall, pass, entry, number, index, words[index as usize]);
     }
@@ -205,8 +205,6 @@ pub fn draw(
     if pass.quota() == 0 {
         return Err(QuotaSpent);
     }
-    // The caller is the pass's number, which is below 2^20.
-    pass.number();
     let number = draw_number(hall, pass, entry);
     log_row(hall, pass, entry, number);
     Ok(number)
