@@ -65,9 +65,8 @@ fn word_by<K: Spot>(hall: &Hall<MapCargo>, pass: &mut Pass<MapCargo>, cell: u64,
     ensures word { result ≡ slice_index (words_of (view pass.old).part cell) index }
     ensures length { length (words_of (view pass.old).part cell) ≡ width (cargo_of hall.now) }
 {
-    let cargo = hall.cargo();
-    let width = 1 + 3 * cargo.rows;
-    hall.load_cargo::<Saw<K>>(pass, cell * width + index)
+    let first = cell * hall.cargo().width();
+    hall.load_cargo::<Saw<K>>(pass, first + index)
 }
 
 /// A word of a cell that the pass holds.
@@ -102,9 +101,8 @@ fn set_word_by<K: Spot>(
     ensures part { (view pass.new).part ≡ rewrote (view pass.old).part cell index value }
     ensures length { length (words_of (view pass.old).part cell) ≡ width (cargo_of hall.now) }
 {
-    let cargo = hall.cargo();
-    let width = 1 + 3 * cargo.rows;
-    hall.store_cargo::<Wrote<K>>(pass, cell * width + index, value);
+    let first = cell * hall.cargo().width();
+    hall.store_cargo::<Wrote<K>>(pass, first + index, value);
 }
 
 /// Stores a word of a cell that the pass holds exclusively.

@@ -105,9 +105,8 @@ fn draw_by<K: Line>(hall: &Hall<MapCargo>, pass: &mut Pass<MapCargo>, entry: &En
     ensures drew { Drew no_entries 0 (view pass.old).part (view pass.new).part result entry.now }
     ensures number { result < (cargo_of hall.now).writes }
 {
-    let cargo = hall.cargo();
-    let width = 1 + 3 * cargo.rows;
-    hall.add_cargo::<Draws<K>>(pass, cargo.cells * width, 1)
+    let place = hall.cargo().number_place();
+    hall.add_cargo::<Draws<K>>(pass, place, 1)
 }
 
 fn draw_number(hall: &Hall<MapCargo>, pass: &mut Pass<MapCargo>, entry: &Entry) -> u64
@@ -140,9 +139,8 @@ fn log_by<K: Line>(
     ensures pass { IsPassOf hall.now pass.new × Alike (view pass.old) (view pass.new) }
     ensures part { (view pass.new).part ≡ logged (view pass.old).part (index + 1) }
 {
-    let cargo = hall.cargo();
-    let width = 1 + 3 * cargo.rows;
-    hall.store_cargo::<Logs<K>>(pass, cargo.cells * width + 1 + 8 * number + index, value);
+    let place = hall.cargo().number_place();
+    hall.store_cargo::<Logs<K>>(pass, place + 1 + 8 * number + index, value);
 }
 
 // Stores the next word of the log row that the pass has drawn.
@@ -218,9 +216,8 @@ fn place_by<K: Line>(hall: &Hall<MapCargo>, pass: &mut Pass<MapCargo>, entry: &E
     ensures pass { IsPassOf hall.now pass.new × Alike (view pass.old) (view pass.new) }
     ensures placed { ((view pass.new).part ≡ placed (view pass.old).part result entry.now) × ((view pass.old).part.seen ≤ result) }
 {
-    let cargo = hall.cargo();
-    let width = 1 + 3 * cargo.rows;
-    hall.load_cargo::<Places<K>>(pass, cargo.cells * width)
+    let place = hall.cargo().number_place();
+    hall.load_cargo::<Places<K>>(pass, place)
 }
 
 /// Places a read, by one load of the number word, which it answers: so many writes were drawn before it. The pass holds

@@ -1,5 +1,5 @@
 //! The cargo's words, and the laws that its rule keeps.
-ghost use Rattle.std.specs.Prelude.{◌<◌, ◌≤◌, ◌^◌, ◌/◌, ℕ, Some, None, if◌then◌else◌, nat_lt, refl};
+ghost use Rattle.std.specs.Prelude.{◌≡◌, ◌<◌, ◌≤◌, ◌+◌, ◌*◌, ◌^◌, ◌/◌, ℕ, Some, None, if◌then◌else◌, nat_lt, refl};
 ghost use Rattle.query_rules.specs.Maps.{no_entries};
 ghost use Rattle.map_cargo.specs.Cells.{word_count, number_place, width};
 ghost use Rattle.map_cargo.specs.History.{OneHistory, Learns, Settled, Rested, first_part, split_part, joined_part};
@@ -51,15 +51,31 @@ impl CargoRule for MapCargo {
     ghost join_keeps = { join_keeps no_entries };
 }
 
+impl MapCargo {
+    // How many words a cell has.
+    pub(crate) fn width(&self) -> u64
+        ensures { result ≡ width self.now }
+    {
+        1 + 3 * self.rows
+    }
+
+    // Where the number word stands, behind all cells.
+    pub(crate) fn number_place(&self) -> u64
+        ensures value { result ≡ number_place self.now }
+        ensures low { result + 1 + 8 * self.now.writes < 2 ^ 32 }
+    {
+        self.cells * self.width()
+    }
+}
+
 impl Cargo for MapCargo {
     fn words(&self) -> u64 {
-        self.cells * (1 + 3 * self.rows) + 1 + 8 * self.writes
+        self.number_place() + 1 + 8 * self.writes
     }
 
     fn lock_of(&self, place: u64) -> Option<u64> {
-        let width = 1 + 3 * self.rows;
-        if place < self.cells * width {
-            Some(place / width)
+        if place < self.number_place() {
+            Some(place / self.width())
         } else {
             None
         }
