@@ -1,0 +1,6 @@
+mod Places
+mod Notes
+mod Meaning
+mod Lists
+mod Drawing
+mod Ended

@@ -1,0 +1,10 @@
+use Rattle.hall.specs.Passes.{view}
+use Rattle.hall.specs.Rule.{cargo_seat}
+use Rattle.map_cargo.proofs.Ended.{ended, legal}
+use Rattle.map_cargo.proofs.ending.close.Goals as goal
+
+pub returns-clause-ended : goal.returns-clause-ended
+returns-clause-ended c = ended _ _ _ (cargo_seat (view c.args.pass)) _ _ c.requires.rested c.close.ensures.cargo
+
+pub returns-clause-legal : goal.returns-clause-legal
+returns-clause-legal c = legal _ _ _ _ _ (ended _ _ _ (cargo_seat (view c.args.pass)) _ _ c.requires.rested c.close.ensures.cargo)

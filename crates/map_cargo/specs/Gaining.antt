@@ -1,0 +1,59 @@
+-- What a pass knows after it took a lock.
+use Rattle.std.specs.Prelude.{◌≡◌, ◌≢◌, ℕ, true, List}
+use Rattle.std.proofs.Common.{refl, sym, ap, subst, ◌∙◌}
+use mathlib.Core.Logic.{dite}
+use native.Mathlib.Decide.{ℕ_discrete}
+use Rattle.hall.specs.declared.view.View.{View}
+use Rattle.hall.specs.declared.view.Kind.{Kind}
+use Rattle.hall.specs.declared.view.Standing.{Standing}
+use Rattle.hall.specs.declared.view.Standing.TheVariants.{Away}
+use Rattle.hall.specs.Views.{standing, after_step}
+use Rattle.query_rules.specs.Maps.{Maps}
+use Rattle.map_cargo.specs.declared.entry.Entry.{Entry}
+use Rattle.map_cargo.specs.declared.entry.Part.{Part}
+use Rattle.map_cargo.specs.Cells.{Means}
+use Rattle.map_cargo.specs.History.{Learns, Settled, words_of, plain_of}
+use Rattle.map_cargo.specs.Laws.{after_gain}
+use Rattle.map_cargo.specs.Steps.{Gained, placed}
+
+module _ (opening : Maps) where
+  pub gained_by : (kind : Kind) (y : Standing) (v : View Part) (lock found : ℕ) (w : View Part) → (ws : List ℕ) × (part : Part) × Learns opening lock v.part part × (w ≡ after_step v kind lock found true y part) → Gained opening lock v w
+  gained_by kind y v lock found w t =
+      let a = after_gain opening lock v.part t.1 t.2 in subst (λ (z : View Part). Gained opening lock v z) (sym t.3) record {
+        settled = a.0;
+        words = λ k ne. (a.5 k ne).0;
+        plain = λ k ne. (a.5 k ne).1;
+        seen = a.2;
+        told = a.1;
+        row = a.3;
+        stored = a.4;
+        number = refl;
+        quota = refl;
+        span = refl;
+        taken = refl;
+      }
+
+-- a pass that is away from one lock and from each other is away from all
+pub everywhere : (v : View Part) (cell : ℕ) → standing v cell ≡ Away → ((k : ℕ) → k ≢ cell → standing v k ≡ Away) → (k : ℕ) → standing v k ≡ Away
+everywhere v cell here others k = dite (ℕ_discrete k cell) (λ same. subst (λ (i : ℕ). standing v i ≡ Away) (sym same) here) (others k)
+
+-- steps before a gain that left the part as it was don't matter
+pub gained_from : (opening : Maps) (lock : ℕ) (u v w : View Part) → u.part ≡ v.part → u.number ≡ v.number → u.quota ≡ v.quota → u.span ≡ v.span → u.taken ≡ v.taken → Gained opening lock u w → Gained opening lock v w
+gained_from opening lock u v w part number quota span taken h = record {
+  settled = h.settled;
+  words = λ k ne. h.words k ne ∙ ap (λ (p : Part). words_of p k) part;
+  plain = λ k ne. h.plain k ne ∙ ap (λ (p : Part). plain_of opening p k) part;
+  seen = h.seen ∙ ap (λ (p : Part). p.seen) part;
+  told = h.told ∙ ap (λ (p : Part). p.told) part;
+  row = h.row ∙ ap (λ (p : Part). p.row) part;
+  stored = h.stored ∙ ap (λ (p : Part). p.stored) part;
+  number = h.number ∙ number;
+  quota = h.quota ∙ quota;
+  span = h.span ∙ span;
+  taken = h.taken ∙ taken;
+}
+
+-- a settled cell stays settled where the pass only places a read
+pub still_settled : (opening : Maps) (lock cell : ℕ) (p q r : Part) (n : ℕ) (e : Entry) → lock ≡ cell → q ≡ p → r ≡ placed q n e → Settled opening cell p → Settled opening lock r
+still_settled opening lock cell p q r n e at same is h =
+    subst (Settled opening lock) (sym (is ∙ ap (λ (z : Part). placed z n e) same)) (subst (λ (k : ℕ). Means (words_of p k) (plain_of opening p k)) (sym at) h)

@@ -1,0 +1,6 @@
+pub mod Cells
+pub mod Entries
+pub mod History
+pub mod Laws
+pub mod Steps
+pub mod Gaining

@@ -1,0 +1,29 @@
+//! How the history ends.
+ghost use Rattle.std.specs.Prelude.{◌≡◌, ℕ, map};
+ghost use Rattle.hall.specs.Closing.{closed_words, WasOf};
+ghost use Rattle.hall.specs.Passes.{view, IsPassOf, cargo_of, shape_of};
+ghost use Rattle.hall.specs.Numbers.{width};
+ghost use Rattle.hall.specs.Views.{standing};
+ghost use Rattle.hall.specs.declared.view.Standing.TheVariants.{Away};
+ghost use Rattle.query_rules.specs.History.{IsLegal};
+ghost use Rattle.query_rules.specs.Maps.{no_entries};
+ghost use Rattle.map_cargo.specs.Entries.{as_reply};
+ghost use Rattle.map_cargo.specs.History.{Rested};
+ghost use Rattle.map_cargo.specs.Steps.{Ended};
+
+use crate::size::MapCargo;
+use hall::{Closed, Hall, Pass};
+
+/// Closes the hall with a pass that is away from every lock and at rest. The log row of each write among its replies holds
+/// the write's words. Where the pass covers all numbers, that is each write that was drawn, and its replies are one legal
+/// history of plain maps that start empty.
+pub fn close(hall: Hall<MapCargo>, pass: Pass<MapCargo>) -> Closed
+    requires pass { IsPassOf hall pass }
+    requires away { (lock : ℕ) → standing (view pass) lock ≡ Away }
+    requires rested { Rested (view pass).part }
+    ensures shape { WasOf result (shape_of hall) }
+    ensures ended { Ended no_entries (cargo_of hall) (closed_words result) (view pass).part (width (view pass) ≡ (shape_of hall).seats) }
+    ensures legal { width (view pass) ≡ (shape_of hall).seats → IsLegal (cargo_of hall).rows no_entries (map as_reply (view pass).part.told) }
+{
+    hall.close(pass)
+}

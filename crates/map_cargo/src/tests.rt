@@ -1,0 +1,399 @@
+//! What no clause says: that the words of a run are those that are meant.
+ghost use Rattle.std.specs.Prelude.{◌≡◌, ◌≢◌, ◌<◌, ◌≤◌, ◌+◌, ◌∷◌, ℕ};
+ghost use Rattle.hall.specs.Passes.{view, IsPassOf, cargo_of, shape_of};
+ghost use Rattle.hall.specs.Views.{standing};
+ghost use Rattle.hall.specs.declared.view.Standing.TheVariants.{Away, Inline, Exclusive};
+ghost use Rattle.query_rules.specs.Maps.{no_entries};
+ghost use Rattle.map_cargo.specs.History.{Settled, Rested};
+ghost use Rattle.map_cargo.specs.Steps.{Suits, Idle, Gained, Left, Alike};
+
+use crate::cells::{del, get, len, put};
+use crate::ending::close;
+use crate::entry::Entry;
+use crate::history::{QuotaSpent, draw, place_read};
+use crate::size::MapCargo;
+use hall::{ExclusiveGuard, Hall, Pass, Policy, SharedGuard};
+use query_rules::{Query, Said};
+use shared_mutex::{try_lock, try_lock_shared, unlock, unlock_shared};
+use std::process::Abort;
+use std::sync::Wait;
+use std::thread::{self, Threads};
+
+// An exclusive hold, which nobody is in the way of.
+fn exclusive<A: Abort>(
+    rt: &A,
+    hall: &Hall<MapCargo>,
+    pass: &mut Pass<MapCargo>,
+    cell: u64,
+) -> ExclusiveGuard
+    requires pass { IsPassOf hall.now pass.old }
+    requires cell { cell < (shape_of hall.now).locks }
+    requires idle { Idle (view pass.old) }
+    ensures pass { IsPassOf hall.now pass.new }
+    ensures held { (result.lock ≡ cell) × (standing (view pass.new) cell ≡ Exclusive) }
+    ensures others { (k : ℕ) → k ≢ cell → standing (view pass.new) k ≡ Away }
+    ensures gained { Gained no_entries cell (view pass.old) (view pass.new) }
+{
+    match try_lock(hall, pass, cell) {
+        Ok(guard) => guard,
+        Err(_) => rt.abort(),
+    }
+}
+
+// A shared hold, which nobody is in the way of.
+fn shared<A: Abort>(
+    rt: &A,
+    hall: &Hall<MapCargo>,
+    pass: &mut Pass<MapCargo>,
+    cell: u64,
+) -> SharedGuard
+    requires pass { IsPassOf hall.now pass.old }
+    requires cell { cell < (shape_of hall.now).locks }
+    requires idle { Idle (view pass.old) }
+    ensures pass { IsPassOf hall.now pass.new }
+    ensures held { (result.lock ≡ cell) × (standing (view pass.new) cell ≡ Inline) }
+    ensures others { (k : ℕ) → k ≢ cell → standing (view pass.new) k ≡ Away }
+    ensures gained { Gained no_entries cell (view pass.old) (view pass.new) }
+{
+    match try_lock_shared(hall, pass, cell) {
+        Ok(guard) => guard,
+        Err(_) => rt.abort(),
+    }
+}
+
+// Ends a hold: the pass is idle again.
+#[tactic(auto, using(crate::specs::Gaining::everywhere))]
+fn leave(hall: &Hall<MapCargo>, pass: &mut Pass<MapCargo>, guard: ExclusiveGuard)
+    requires pass { IsPassOf hall.now pass.old }
+    requires cell { guard.lock < (shape_of hall.now).locks }
+    requires held { standing (view pass.old) guard.lock ≡ Exclusive }
+    requires others { (k : ℕ) → k ≢ guard.lock → standing (view pass.old) k ≡ Away }
+    requires settled { Settled no_entries guard.lock (view pass.old).part }
+    requires rested { Rested (view pass.old).part }
+    ensures pass { IsPassOf hall.now pass.new }
+    ensures idle { Idle (view pass.new) }
+    ensures left { Left (view pass.old) (view pass.new) }
+{
+    unlock(hall, pass, guard);
+}
+
+#[tactic(auto, using(crate::specs::Gaining::everywhere))]
+fn leave_shared(hall: &Hall<MapCargo>, pass: &mut Pass<MapCargo>, guard: SharedGuard)
+    requires pass { IsPassOf hall.now pass.old }
+    requires cell { guard.lock < (shape_of hall.now).locks }
+    requires held { standing (view pass.old) guard.lock ≡ Inline }
+    requires others { (k : ℕ) → k ≢ guard.lock → standing (view pass.old) k ≡ Away }
+    requires rested { Rested (view pass.old).part }
+    ensures pass { IsPassOf hall.now pass.new }
+    ensures idle { Idle (view pass.new) }
+    ensures left { Left (view pass.old) (view pass.new) }
+{
+    unlock_shared(hall, pass, guard);
+}
+
+fn entry_of(pass: &Pass<MapCargo>, index: u64, query: Query, said: Said) -> Entry
+    ensures { result ≡ record { caller = (view pass.now).number; index = index; query = query; said = said } }
+{
+    Entry {
+        caller: pass.number(),
+        index,
+        query,
+        said,
+    }
+}
+
+// One put from the lock to its release.
+fn ask_put<A: Abort>(
+    rt: &A,
+    hall: &Hall<MapCargo>,
+    pass: &mut Pass<MapCargo>,
+    cell: u64,
+    key: u64,
+    value: u64,
+) -> Said
+    requires pass { IsPassOf hall.now pass.old × Suits hall.now }
+    requires cell { (cell < (cargo_of hall.now).cells) × (cell < (shape_of hall.now).locks) }
+    requires idle { Idle (view pass.old) }
+    requires quota { 0 < (view pass.old).quota }
+    ensures pass { IsPassOf hall.now pass.new }
+    ensures idle { Idle (view pass.new) }
+    ensures quota { (view pass.old).quota ≤ (view pass.new).quota + 1 }
+{
+    let query = Query::Put { cell, key, value };
+    let guard = exclusive(rt, hall, pass, cell);
+    let said = match put(hall, pass, cell, key, value) {
+        Ok(Some(old)) => Said::Old(old),
+        Ok(None) => Said::New,
+        Err(_) => {
+            let entry = entry_of(pass, 0, query, Said::Full);
+            place_read(hall, pass, &entry);
+            leave(hall, pass, guard);
+            return Said::Full;
+        }
+    };
+    let entry = entry_of(pass, 0, query, said);
+    let Ok(_) = draw(hall, pass, &entry) else {
+        unreachable!()
+    };
+    leave(hall, pass, guard);
+    said
+}
+
+// One removal from the lock to its release.
+fn ask_del<A: Abort>(
+    rt: &A,
+    hall: &Hall<MapCargo>,
+    pass: &mut Pass<MapCargo>,
+    cell: u64,
+    key: u64,
+) -> Said
+    requires pass { IsPassOf hall.now pass.old × Suits hall.now }
+    requires cell { (cell < (cargo_of hall.now).cells) × (cell < (shape_of hall.now).locks) }
+    requires idle { Idle (view pass.old) }
+    requires quota { 0 < (view pass.old).quota }
+    ensures pass { IsPassOf hall.now pass.new }
+    ensures idle { Idle (view pass.new) }
+    ensures quota { (view pass.old).quota ≤ (view pass.new).quota + 1 }
+{
+    let query = Query::Del { cell, key };
+    let guard = exclusive(rt, hall, pass, cell);
+    let Some(old) = del(hall, pass, cell, key) else {
+        let entry = entry_of(pass, 0, query, Said::Absent);
+        place_read(hall, pass, &entry);
+        leave(hall, pass, guard);
+        return Said::Absent;
+    };
+    let entry = entry_of(pass, 0, query, Said::Old(old));
+    let Ok(_) = draw(hall, pass, &entry) else {
+        unreachable!()
+    };
+    leave(hall, pass, guard);
+    Said::Old(old)
+}
+
+// One look for a key from the lock to its release.
+fn ask_get<A: Abort>(
+    rt: &A,
+    hall: &Hall<MapCargo>,
+    pass: &mut Pass<MapCargo>,
+    cell: u64,
+    key: u64,
+) -> Said
+    requires pass { IsPassOf hall.now pass.old × Suits hall.now }
+    requires cell { (cell < (cargo_of hall.now).cells) × (cell < (shape_of hall.now).locks) }
+    requires idle { Idle (view pass.old) }
+    ensures pass { IsPassOf hall.now pass.new }
+    ensures idle { Idle (view pass.new) }
+    ensures quota { (view pass.new).quota ≡ (view pass.old).quota }
+{
+    let guard = shared(rt, hall, pass, cell);
+    let said = match get(hall, pass, cell, key) {
+        Some(value) => Said::Found(value),
+        None => Said::Absent,
+    };
+    let entry = entry_of(pass, 0, Query::Get { cell, key }, said);
+    place_read(hall, pass, &entry);
+    leave_shared(hall, pass, guard);
+    said
+}
+
+// One count of the keys from the lock to its release.
+fn ask_len<A: Abort>(rt: &A, hall: &Hall<MapCargo>, pass: &mut Pass<MapCargo>, cell: u64) -> Said
+    requires pass { IsPassOf hall.now pass.old × Suits hall.now }
+    requires cell { (cell < (cargo_of hall.now).cells) × (cell < (shape_of hall.now).locks) }
+    requires idle { Idle (view pass.old) }
+    ensures pass { IsPassOf hall.now pass.new }
+    ensures idle { Idle (view pass.new) }
+    ensures quota { (view pass.new).quota ≡ (view pass.old).quota }
+{
+    let guard = shared(rt, hall, pass, cell);
+    let said = Said::Count(len(hall, pass, cell));
+    let entry = entry_of(pass, 0, Query::Len { cell }, said);
+    place_read(hall, pass, &entry);
+    leave_shared(hall, pass, guard);
+    said
+}
+
+#[test]
+fn one_write_and_one_read(rt: HostRuntime) {
+    let cargo = MapCargo {
+        cells: 1,
+        rows: 8,
+        writes: 1,
+    };
+    let made = Hall::make(rt.alloc(), 1, 32, Policy::WritePriority, 1, 1, cargo);
+    let Ok((hall, first)) = made else { rt.abort() };
+    let mut pass = first;
+    let guard = exclusive(&rt, &hall, &mut pass, 0);
+    let Ok(None) = put(&hall, &mut pass, 0, 7, 5) else {
+        rt.abort()
+    };
+    let query = Query::Put {
+        cell: 0,
+        key: 7,
+        value: 5,
+    };
+    let entry = entry_of(&pass, 0, query, Said::New);
+    match draw(&hall, &mut pass, &entry) {
+        Ok(number) => assert_eq!(rt; number, 0),
+        Err(_) => unreachable!(),
+    }
+    leave(&hall, &mut pass, guard);
+    let guard = shared(&rt, &hall, &mut pass, 0);
+    assert_eq!(rt; get(&hall, &mut pass, 0, 7), Some(5));
+    let None = get(&hall, &mut pass, 0, 8) else {
+        rt.abort()
+    };
+    let entry = entry_of(&pass, 1, Query::Get { cell: 0, key: 8 }, Said::Absent);
+    assert_eq!(rt; place_read(&hall, &mut pass, &entry), 1);
+    leave_shared(&hall, &mut pass, guard);
+    let closed = close(hall, pass);
+    assert_eq!(rt; closed.word(25), 1);
+    let row = [1, 0, 1, 0, 0, 7, 5, 0];
+    for index in 0..8u64 {
+        assert_eq!(rt; closed.word(26 + index), row[index as usize]);
+    }
+    let cell = [1, 1, 7, 5, 0, 0, 0];
+    for index in 0..7u64 {
+        assert_eq!(rt; closed.word(index), cell[index as usize]);
+    }
+}
+
+// Two rows: the third key finds no room, until a deletion makes some.
+#[test]
+fn a_small_table_of_queries(rt: HostRuntime) {
+    let cargo = MapCargo {
+        cells: 2,
+        rows: 2,
+        writes: 20,
+    };
+    let made = Hall::make(rt.alloc(), 2, 1, Policy::ReadPriority, 1, 20, cargo);
+    let Ok((hall, first)) = made else { rt.abort() };
+    let mut pass = first;
+    assert_eq!(rt; ask_put(&rt, &hall, &mut pass, 1, 1, 10), Said::New);
+    assert_eq!(rt; ask_put(&rt, &hall, &mut pass, 1, 1, 11), Said::Old(10));
+    assert_eq!(rt; ask_put(&rt, &hall, &mut pass, 1, 2, 20), Said::New);
+    assert_eq!(rt; ask_put(&rt, &hall, &mut pass, 1, 3, 30), Said::Full);
+    assert_eq!(rt; ask_len(&rt, &hall, &mut pass, 1), Said::Count(2));
+    assert_eq!(rt; ask_len(&rt, &hall, &mut pass, 0), Said::Count(0));
+    assert_eq!(rt; ask_get(&rt, &hall, &mut pass, 1, 3), Said::Absent);
+    assert_eq!(rt; ask_del(&rt, &hall, &mut pass, 1, 1), Said::Old(11));
+    assert_eq!(rt; ask_del(&rt, &hall, &mut pass, 1, 1), Said::Absent);
+    assert_eq!(rt; ask_get(&rt, &hall, &mut pass, 1, 2), Said::Found(20));
+    assert_eq!(rt; ask_put(&rt, &hall, &mut pass, 1, 3, 30), Said::New);
+    assert_eq!(rt; ask_put(&rt, &hall, &mut pass, 1, 2, 21), Said::Old(20));
+    assert_eq!(rt; ask_get(&rt, &hall, &mut pass, 1, 3), Said::Found(30));
+    assert_eq!(rt; ask_get(&rt, &hall, &mut pass, 0, 3), Said::Absent);
+}
+
+// Without a quota nothing is drawn, and the cell is put back as it was.
+#[test]
+fn no_quota(rt: HostRuntime) {
+    let cargo = MapCargo {
+        cells: 1,
+        rows: 2,
+        writes: 1,
+    };
+    let made = Hall::make(rt.alloc(), 1, 1, Policy::WritePriority, 1, 0, cargo);
+    let Ok((hall, first)) = made else { rt.abort() };
+    let mut pass = first;
+    let guard = exclusive(&rt, &hall, &mut pass, 0);
+    let Ok(None) = put(&hall, &mut pass, 0, 7, 5) else {
+        rt.abort()
+    };
+    let query = Query::Put {
+        cell: 0,
+        key: 7,
+        value: 5,
+    };
+    let entry = entry_of(&pass, 0, query, Said::New);
+    let Err(QuotaSpent) = draw(&hall, &mut pass, &entry) else {
+        unreachable!()
+    };
+    let Some(5) = del(&hall, &mut pass, 0, 7) else {
+        rt.abort()
+    };
+    leave(&hall, &mut pass, guard);
+    let closed = close(hall, pass);
+    for place in 0..16 {
+        let left = if place == 2 {
+            7
+        } else if place == 3 {
+            5
+        } else {
+            0
+        };
+        assert_eq!(rt; closed.word(place), left);
+    }
+}
+
+// Fills a cell, a write for each key.
+fn fill<A: Abort>(rt: &A, hall: &Hall<MapCargo>, pass: &mut Pass<MapCargo>, cell: u64, times: u64)
+    requires pass { IsPassOf hall.now pass.old × Suits hall.now }
+    requires cell { (cell < (cargo_of hall.now).cells) × (cell < (shape_of hall.now).locks) }
+    requires idle { Idle (view pass.old) }
+    requires quota { times ≤ (view pass.old).quota }
+    ensures pass { IsPassOf hall.now pass.new }
+    ensures idle { Idle (view pass.new) }
+{
+    for key in 0..times {
+        ask_put(rt, hall, pass, cell, key, 1);
+    }
+}
+
+fn by_two_threads<R: Threads + Wait + Abort + Sync>(
+    rt: &R,
+    hall: &Hall<MapCargo>,
+    mut left: Pass<MapCargo>,
+    mut right: Pass<MapCargo>,
+) -> (Pass<MapCargo>, Pass<MapCargo>)
+    requires left { IsPassOf hall.now left × Idle (view left) × (100 ≤ (view left).quota) }
+    requires right { IsPassOf hall.now right × Idle (view right) × (100 ≤ (view right).quota) }
+    requires two { Suits hall.now × (1 < (cargo_of hall.now).cells) × (1 < (shape_of hall.now).locks) }
+    ensures left { IsPassOf hall.now result.0 × Idle (view result.0) }
+    ensures right { IsPassOf hall.now result.1 × Idle (view result.1) }
+{
+    thread::join(
+        rt,
+        move || -> Pass<MapCargo>
+            requires { IsPassOf hall.now left × Idle (view left) × (100 ≤ (view left).quota) × Suits hall.now × (1 < (cargo_of hall.now).cells) × (1 < (shape_of hall.now).locks) }
+            ensures { IsPassOf hall.entry.now result × Idle (view result) }
+        {
+            fill(rt, hall, &mut left, 0, 100);
+            left
+        },
+        move || -> Pass<MapCargo>
+            requires { IsPassOf hall.now right × Idle (view right) × (100 ≤ (view right).quota) × Suits hall.now × (1 < (cargo_of hall.now).cells) × (1 < (shape_of hall.now).locks) }
+            ensures { IsPassOf hall.entry.now result × Idle (view result) }
+        {
+            fill(rt, hall, &mut right, 1, 100);
+            right
+        },
+    )
+}
+
+// Whatever the schedule was, each of the two hundred writes has its number, its log row and its key.
+#[test]
+fn two_threads_on_two_cells(rt: HostRuntime) {
+    let cargo = MapCargo {
+        cells: 2,
+        rows: 100,
+        writes: 200,
+    };
+    let made = Hall::make(rt.alloc(), 2, 4, Policy::WritePriority, 2, 200, cargo);
+    let Ok((hall, first)) = made else { rt.abort() };
+    let mut first = first;
+    let second = hall.split(&mut first, 1, 100);
+    let (left, right) = by_two_threads(&rt, &hall, first, second);
+    let mut left = left;
+    hall.join(&mut left, right);
+    let closed = close(hall, left);
+    assert_eq!(rt; closed.word(0), 100);
+    assert_eq!(rt; closed.word(301), 100);
+    assert_eq!(rt; closed.word(602), 200);
+    let mut callers = 0u64;
+    for number in 0..200 {
+        callers = callers.wrapping_add(closed.word(603 + 8 * number));
+    }
+    assert_eq!(rt; callers, 300);
+}

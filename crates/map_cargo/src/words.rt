@@ -1,0 +1,83 @@
+//! The cargo's words, and the laws that its rule keeps.
+ghost use Rattle.std.specs.Prelude.{◌≡◌, ◌<◌, ◌≤◌, ◌+◌, ◌*◌, ◌^◌, ◌/◌, ℕ, Some, None, if◌then◌else◌, nat_lt, refl};
+ghost use Rattle.query_rules.specs.Maps.{no_entries};
+ghost use Rattle.map_cargo.specs.Cells.{word_count, number_place, width};
+ghost use Rattle.map_cargo.specs.History.{OneHistory, Learns, Settled, Rested, first_part, split_part, joined_part};
+ghost use Rattle.map_cargo.specs.Laws.{starts, gain_keeps, raise_keeps, lower_keeps, split_keeps, join_keeps};
+
+use crate::entry::Part;
+use crate::size::MapCargo;
+use hall::{Cargo, CargoRule};
+
+impl CargoRule for MapCargo {
+    type Part = Part;
+
+    ghost word_count = { word_count };
+
+    ghost guard_of = { λ c place. if nat_lt place (number_place c) then Some (place / width c) else None };
+
+    ghost holds = { OneHistory no_entries };
+
+    ghost admits = { λ c quota. (quota ≤ c.writes) × (c.writes < 2 ^ 64) };
+
+    ghost opening = { λ _ _. first_part };
+
+    ghost spent = { first_part };
+
+    ghost gains = { λ lock _ p q. Learns no_entries lock p q };
+
+    ghost lowered = { λ _ _ part. part };
+
+    ghost settled = { Settled no_entries };
+
+    ghost rested = { Rested };
+
+    ghost kept = { λ part. part };
+
+    ghost split_off = { split_part };
+
+    ghost joined = { joined_part };
+
+    ghost starts = { starts };
+
+    ghost gain_keeps = { λ c ws qs id lock m q h at. gain_keeps no_entries c ws qs id lock m q h at (λ _ _. refl) };
+
+    ghost raise_keeps = { raise_keeps no_entries };
+
+    ghost lower_keeps = { lower_keeps no_entries };
+
+    ghost split_keeps = { split_keeps no_entries };
+
+    ghost join_keeps = { join_keeps no_entries };
+}
+
+impl MapCargo {
+    // How many words a cell has.
+    pub(crate) fn width(&self) -> u64
+        ensures { result ≡ width self.now }
+    {
+        1 + 3 * self.rows
+    }
+
+    // Where the number word stands, behind all cells.
+    pub(crate) fn number_place(&self) -> u64
+        ensures value { result ≡ number_place self.now }
+        ensures low { result + 1 + 8 * self.now.writes < 2 ^ 32 }
+    {
+        self.cells * self.width()
+    }
+}
+
+impl Cargo for MapCargo {
+    fn words(&self) -> u64 {
+        self.number_place() + 1 + 8 * self.writes
+    }
+
+    fn lock_of(&self, place: u64) -> Option<u64> {
+        if place < self.number_place() {
+            Some(place / self.width())
+        } else {
+            None
+        }
+    }
+}
