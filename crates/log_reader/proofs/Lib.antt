@@ -8,3 +8,5 @@ pub mod Front
 pub mod Unique
 pub mod LogLaws
 pub mod ScriptLaw
+pub mod Orders
+pub mod Sections

@@ -5,8 +5,8 @@ use Rattle.std.specs.declared.cmp.Ordering.{Ordering}
 use Rattle.std.specs.Ordering.{nat_cmp, ordering_then, is_lt}
 use Rattle.std.specs.List.{AllByRecursion}
 use Rattle.std.specs.List.Sorted.{IsNonDecreasingBy}
-use Rattle.core.specs.Cmp.{IsStrictWeakOrder, nat_cmp_total, ranks}
-use Rattle.core.specs.Ordering.{MatchOrdering}
+use Rattle.std.specs.Cmp.{IsStrictWeakOrder, nat_cmp_total, ranks}
+use Rattle.std.specs.Ordering.{MatchOrdering}
 use Rattle.std.proofs.lemmas.List.{length-map, get_or-map}
 use Rattle.std.proofs.lemmas.List.Sorted.{ranks_by, sorted_far}
 use Rattle.std.proofs.lemmas.List.Elements.{All-from_recursion}
@@ -183,7 +183,7 @@ slot_after a b ra rb h = by (cmp_false (section_of b.reply) (section_of a.reply)
     by (inr p) = by_second (cmp_false (key_of b.reply) (key_of a.reply) (by_caller b a) p.1)
 
 rising_pairs : (lines : List Answered) → Rises lines → AllPairs (λ a b. slot a < slot b) lines
-rising_pairs [] up i j d lt within = absurd (omega (arith, within))
+rising_pairs [] up = λ i j d lt within. absurd (omega (arith, within))
 rising_pairs (x ∷ xs) up = AllPairs-cons (λ a b. slot a < slot b) x xs (All-from_recursion (λ b. slot x < slot b) xs up.0) (rising_pairs xs up.1)
 
 -- some of the lines by caller and index, where they are refusals
@@ -202,24 +202,26 @@ pub filter_sorted : (p : Answered → Bool) (lines : List Answered) → IsSorted
 filter_sorted p lines up = IsSortedBy-filter line_lt line_order p lines up
 
 -- ---- one sorted list behind another
-sorted_tail : (x : Answered) (xs : List Answered) → IsSorted line_cmp (x ∷ xs) → IsSorted line_cmp xs
-sorted_tail x xs up i d low within = up (suc i) d (omega arith) (omega (arith, within))
+next_is : (i : ℕ) → suc i + 1 ≡ suc (i + 1)
+next_is i = omega arith
+
+pub sorted_tail : (x : Answered) (xs : List Answered) → IsSorted line_cmp (x ∷ xs) → IsSorted line_cmp xs
+sorted_tail x xs up i d low within = subst (λ n. line_lt (get_or (x ∷ xs) n d) (get_or xs i d) ≡ false) (next_is i) (up (suc i) d (omega arith) (omega (arith, within)))
 
 sorted_cons : (x : Answered) (xs : List Answered) → AllByRecursion (λ b. line_lt b x ≡ false) xs → IsSorted line_cmp xs → IsSorted line_cmp (x ∷ xs)
 sorted_cons x [] all up i d low within = absurd (omega (arith, within))
 sorted_cons x (y ∷ ys) all up zero d low within = all.0
-sorted_cons x (y ∷ ys) all up (suc i) d low within = up i d (omega arith) (omega (arith, within))
+sorted_cons x (y ∷ ys) all up (suc i) d low within = subst (λ n. line_lt (get_or (x ∷ y ∷ ys) n d) (get_or (y ∷ ys) i d) ≡ false) (sym (next_is i)) (up i d (omega arith) (omega (arith, within)))
+
+-- the second is not below the first
+sorted_next : (x z : Answered) (xs : List Answered) → line_lt z x ≡ false → IsSorted line_cmp (z ∷ xs) → IsSorted line_cmp (x ∷ z ∷ xs)
+sorted_next x z xs h up zero d low within = h
+sorted_next x z xs h up (suc i) d low within = subst (λ n. line_lt (get_or (x ∷ z ∷ xs) n d) (get_or (z ∷ xs) i d) ≡ false) (sym (next_is i)) (up i d (omega arith) (omega (arith, within)))
 
 pub sorted_append : (xs ys : List Answered) → AllByRecursion (λ x. AllByRecursion (λ b. line_lt b x ≡ false) ys) xs → IsSorted line_cmp xs → IsSorted line_cmp ys → IsSorted line_cmp (xs ++ ys)
 sorted_append [] ys cross ux uy = uy
 sorted_append (x ∷ []) ys cross ux uy = sorted_cons x ys cross.0 uy
-sorted_append (x ∷ z ∷ xs) ys cross ux uy = front
-  where
-    more : IsSorted line_cmp ((z ∷ xs) ++ ys)
-    more = sorted_append (z ∷ xs) ys cross.1 (sorted_tail x (z ∷ xs) ux) uy
-    front : IsSorted line_cmp (x ∷ ((z ∷ xs) ++ ys))
-    front zero d low within = ux 0 d (omega arith) (omega arith)
-    front (suc i) d low within = more i d (omega arith) (omega (arith, within))
+sorted_append (x ∷ z ∷ xs) ys cross ux uy = sorted_next x z (xs ++ ys) (ux 0 x (omega arith) (omega arith)) (sorted_append (z ∷ xs) ys cross.1 (sorted_tail x (z ∷ xs) ux) uy)
 
 -- lines of an earlier section stand before those of a later one
 pub cross_sections : (k m : ℕ) (xs ys : List Answered) → k < m → AllByRecursion (IsIn k) xs → AllByRecursion (λ b. m ≤ section_of b.reply) ys → AllByRecursion (λ x. AllByRecursion (λ b. line_lt b x ≡ false) ys) xs
