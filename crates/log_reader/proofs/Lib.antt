@@ -10,3 +10,4 @@ pub mod LogLaws
 pub mod ScriptLaw
 pub mod Orders
 pub mod Sections
+pub mod Bridge

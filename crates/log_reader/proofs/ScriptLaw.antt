@@ -42,7 +42,7 @@ count_from c i [] rs same = refl
 count_from c i (q ∷ qs) [] same = absurd (omega (arith, same))
 count_from c i (q ∷ qs) (r ∷ rs) same = let n = count_from c (i + 1) qs rs (omega (arith, same)) in omega (arith, n)
 
-count_of : (c : ℕ) (asked : List (List Query)) (told : List (List Reply)) → IsPaired asked told → length (answered_of c asked told) ≡ sum_by length asked
+pub count_of : (c : ℕ) (asked : List (List Query)) (told : List (List Reply)) → IsPaired asked told → length (answered_of c asked told) ≡ sum_by length asked
 count_of c [] told paired = refl
 count_of c (qs ∷ asked) [] paired = absurd paired
 count_of c (qs ∷ asked) (rs ∷ told) paired =
