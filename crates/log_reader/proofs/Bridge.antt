@@ -1,5 +1,5 @@
 -- A log's text, by its spots and by its lines: each gives the other.
-use Rattle.std.proofs.Common.{◌≡◌, ℕ, zero, suc, ◌+◌, ◌-◌, ◌<◌, ◌≤◌, ◌==◌, ◌&&◌, ◌^◌, Bool, true, false, cond, not, List, [], ◌∷◌, ◌++◌, length, map, filter, take, drop, flat_map, sum_by, count_by, nat_lt, nat_le, get_or, set, swap, IsPermutation, refl, sym, ap, ◌∙◌, subst, append_assoc, append-nil, length-append, arith, rules, tests}
+use Rattle.std.proofs.Common.{◌≡◌, ℕ, zero, suc, ◌+◌, ◌-◌, ◌<◌, ◌≤◌, ◌==◌, ◌&&◌, ◌^◌, Bool, true, false, cond, not, List, [], ◌∷◌, ◌++◌, length, map, filter, take, drop, flat_map, sum_by, count_by, nat_lt, nat_le, ◌≢◌, get_or, set, swap, IsPermutation, refl, sym, ap, ◌∙◌, subst, append_assoc, append-nil, length-append, arith, rules, tests}
 use Rattle.std.specs.Prelude.{IsSorted}
 use Rattle.std.specs.List.{AllByRecursion, AllZip, list_all}
 use Rattle.std.specs.List.Sorted.{IsNonDecreasingBy}
@@ -21,9 +21,13 @@ use Rattle.query_rules.specs.History.{IsKindFor}
 use Rattle.query_rules.specs.Log.{log_text, head_text, spots_text, refused_text, spots_of, spot_cmp, totals_text, totals_of, end_line, placed_count, IsOrder, IsOrderOf}
 use Rattle.query_text.proofs.Spots.{maps_count}
 use Rattle.log_reader.specs.declared.answered.Answered.{Answered}
-use Rattle.log_reader.specs.Listing.{IsNumber, IsQuery, IsReply, IsWritable, IsWritableListing, answered_line, answers_text, tail_text, listing_text, line_cmp, section_of, key_of, lines_totals}
+use Rattle.log_reader.specs.Listing.{IsNumber, IsQuery, IsReply, IsWritable, Listing, IsWritableListing, answered_line, answers_text, tail_text, listing_text, line_cmp, section_of, key_of, lines_totals}
 use Rattle.log_reader.specs.LogText.{answered_from, answered_of, IsPaired, IsLinesOf, IsLog, is_log, is_answer, has_reply, takes_below, listing, IsLogText}
-use Rattle.log_reader.specs.IsLog.{IsLogOf}
+use Rattle.log_reader.specs.IsLog.{IsLogOf, IsNoLog}
+use Rattle.log_reader.specs.Reading.{FailsOnly}
+use Rattle.log_reader.specs.declared.fault.LogFault.{LogFault}
+use Rattle.log_reader.specs.declared.fault.LogFault.TheVariants.{NoMemory, NotALog}
+use Rattle.log_reader.proofs.LogLaws.{NoLog, no_page}
 use Rattle.log_reader.specs.Grouping.{slot}
 use Rattle.log_reader.proofs.Clean.{all_append}
 use Rattle.log_reader.proofs.Unique.{Rises, lists_rise, all_moved, all_parts, sorted_lines}
@@ -337,3 +341,15 @@ lines_from s rows told bytes h =
       };
       text_is = h.text_is ∙ parts_text s rows told h.order _ _ m.lines r j.lines refl refl m.text_is (refused_is s.callers told) j.text_is (totals_are s.callers told lines paired each);
     }
+
+-- ---- what is no log by its lines is none
+pub no_logs : (bytes : List ℕ) → NoLog bytes → IsNoLog bytes
+no_logs bytes none s rows told h = none s rows told (lines_from s rows told bytes h)
+
+-- where reading the lines fails, so does reading the log
+pub page_none : (e : LogFault) (bytes : List ℕ) → FailsOnly e ((l : Listing) → IsWritableListing l → bytes ≢ listing_text l) → FailsOnly e (IsNoLog bytes)
+page_none NoMemory bytes none = tt
+page_none NotALog bytes none = no_logs bytes (no_page bytes none)
+
+pub script_from : {s : Asked} (rows : ℕ) (told : List (List Reply)) (bytes : List ℕ) → IsLogText s rows told bytes → IsScript s
+script_from {s} rows told bytes h = log_script s rows told bytes h
