@@ -1,5 +1,5 @@
 -- A line's words are read again.
-use Rattle.std.proofs.Common.{◌≡◌, ℕ, ◌+◌, ◌<◌, ◌≤◌, ◌^◌, ◌==◌, ◌&&◌, Bool, true, false, List, [], ◌∷◌, ◌++◌, length, map, take, drop, flat_map, decimal, codes, Option, Some, None, Result, Ok, Err, zero, suc, refl, sym, ap, subst, nat_lt, ◌∙◌, length-append, arith, rules, tests, option_map}
+use Rattle.std.proofs.Common.{◌≡◌, ℕ, ◌<◌, ◌≤◌, false, List, [], ◌∷◌, ◌++◌, length, map, take, drop, decimal, codes, Option, Some, None, Result, Ok, Err, zero, suc, refl, ap, nat_lt, ◌∙◌, length-append, arith, rules, option_map}
 use Rattle.std.specs.List.{AllByRecursion}
 use Rattle.query_rules.specs.declared.query.Query.{Query}
 use Rattle.query_rules.specs.declared.query.Query.TheVariants as query
@@ -13,7 +13,7 @@ use Rattle.query_rules.specs.declared.query.Reply.{Reply}
 use Rattle.query_rules.specs.declared.query.Reply.TheVariants.{Placed, Busy, Late, Job}
 use Rattle.query_rules.specs.declared.verb.Verb.{Verb}
 use Rattle.query_rules.specs.declared.verb.Verb.TheVariants.{Get, Len, Put, Del, Add, Cas, PutLen, Move, Both, TryGet, TryPut, GetBy, PutBy, Give, Take, Audit}
-use Rattle.query_rules.specs.Words.{number_of, lines_of, words_of, line_of}
+use Rattle.query_rules.specs.Words.{number_of}
 use Rattle.query_rules.specs.Verbs.{verb_word, verb_named, verb_of, numbers_of, arity, query_of, query_words}
 use Rattle.query_rules.specs.Grammar.{numbers_in}
 use Rattle.query_rules.specs.Log.{found_words, said_words, ledger_words, reply_words, place_words, answer_words}
@@ -21,7 +21,7 @@ use Rattle.query_text.proofs.Spelled.{number_again}
 use Rattle.log_reader.specs.declared.answered.Answered.{Answered}
 use Rattle.log_reader.specs.declared.read_words.Question.{Question}
 use Rattle.log_reader.specs.Listing.{IsNumber, IsFound, IsSaid, IsResult, IsReply, IsQuery, IsWritable, answered_words}
-use Rattle.log_reader.specs.Reading.{◌>>=◌, name_at, number_at, numbers_at, wide_of, query_at, question_at, said_named, said_with, said_in, refusal_in, result_in, placed_in, refused_in, job_in, kind_in, answered_in, tables_in}
+use Rattle.log_reader.specs.Reading.{◌>>=◌, name_at, number_at, numbers_at, query_at, question_at, said_named, said_with, said_in, refusal_in, result_in, placed_in, refused_in, job_in, kind_in, answered_in, tables_in}
 use Rattle.log_reader.proofs.WideNumbers.{wide_again}
 use Rattle.log_reader.proofs.Clean.{Clean, IsForm, clean_number, clean_numbers, clean_wide, clean_if, all_append}
 
@@ -268,10 +268,14 @@ clean_query q all = (clean_verb (verb_of q), clean_numbers (numbers_of q) all)
 
 -- what follows the place
 clean_rest : (a : Answered) → IsWritable a → AllByRecursion Clean (rest_words a.caller a.index a.query (reply_words a.reply))
-clean_rest a fits =
-    (clean_number a.caller fits.caller, (clean_number a.index fits.index,
-      all_append Clean (query_words a.query) (codes "=" ∷ reply_words a.reply) (clean_query a.query fits.query)
-        (clean_if (codes "=") refl, clean_reply a.reply fits.reply)))
+clean_rest a fits = (
+  clean_number a.caller fits.caller,
+  (
+    clean_number a.index fits.index,
+    all_append Clean (query_words a.query) (codes "=" ∷ reply_words a.reply) (clean_query a.query fits.query)
+        (clean_if (codes "=") refl, clean_reply a.reply fits.reply),
+  ),
+)
 
 clean_place : (reply : Reply) (ws : List (List ℕ)) → IsReply reply → AllByRecursion Clean ws → AllByRecursion Clean (place_words reply ++ ws)
 clean_place (Placed place said) ws all rest = (clean_if (codes "map") refl, (clean_number place all.0, rest))
@@ -365,10 +369,19 @@ tables_again t fits =
     ∙ ap (λ (r : Option (ℕ × List (List ℕ))). r >>= λ z. Some (t.0, t.1, z.0)) (number_at_again t.2 _ fits.2)
 
 tables_clean : (t : ℕ × ℕ × ℕ) → AreTables t → AllByRecursion Clean (tables_words t)
-tables_clean t fits =
-    (clean_if (codes "cells") refl, (clean_number t.0 fits.0,
-      (clean_if (codes "rows") refl, (clean_number t.1 fits.1,
-        (clean_if (codes "callers") refl, (clean_number t.2 fits.2, tt))))))
+tables_clean t fits = (
+  clean_if (codes "cells") refl,
+  (
+    clean_number t.0 fits.0,
+    (
+      clean_if (codes "rows") refl,
+      (
+        clean_number t.1 fits.1,
+        (clean_if (codes "callers") refl, (clean_number t.2 fits.2, tt)),
+      ),
+    ),
+  ),
+)
 
 pub tables_form : IsForm AreTables tables_words tables_in
 tables_form = record { again = tables_again; clean = tables_clean; some = λ t. omega arith; few = λ t. omega arith }

@@ -1,8 +1,7 @@
 -- A log's text, by its spots and by its lines: each gives the other.
-use Rattle.std.proofs.Common.{◌≡◌, ℕ, zero, suc, ◌+◌, ◌-◌, ◌<◌, ◌≤◌, ◌==◌, ◌&&◌, ◌^◌, Bool, true, false, cond, not, List, [], ◌∷◌, ◌++◌, length, map, filter, take, drop, flat_map, sum_by, count_by, nat_lt, nat_le, ◌≢◌, get_or, set, swap, IsPermutation, refl, sym, ap, ◌∙◌, subst, append_assoc, append-nil, length-append, arith, rules, tests}
+use Rattle.std.proofs.Common.{◌≡◌, ℕ, zero, suc, ◌+◌, ◌<◌, ◌≤◌, ◌^◌, Bool, true, false, cond, List, [], ◌∷◌, ◌++◌, length, map, filter, take, drop, flat_map, sum_by, nat_lt, nat_le, ◌≢◌, get_or, set, swap, IsPermutation, refl, sym, ap, ◌∙◌, subst, append_assoc, arith, rules, tests}
 use Rattle.std.specs.Prelude.{IsSorted}
 use Rattle.std.specs.List.{AllByRecursion, AllZip, list_all}
-use Rattle.std.specs.List.Sorted.{IsNonDecreasingBy}
 use Rattle.std.proofs.lemmas.Bool.{and_parts}
 use Rattle.std.proofs.lemmas.List.{length-map, map-set, get_or-map}
 use Rattle.std.proofs.lemmas.List.Concat.{flat_map-append}
@@ -15,14 +14,13 @@ use Rattle.query_rules.specs.declared.query.Reply.TheVariants.{Placed, Busy, Lat
 use Rattle.query_rules.specs.declared.query.Section.{Section}
 use Rattle.query_rules.specs.declared.query.Section.TheVariants.{Maps, Jobs}
 use Rattle.query_rules.specs.declared.query.Spot.{Spot}
-use Rattle.query_rules.specs.declared.query.Total.{Total}
 use Rattle.query_rules.specs.Grammar.{Asked, IsScript, TakesBelow, cells_of}
 use Rattle.query_rules.specs.History.{IsKindFor}
-use Rattle.query_rules.specs.Log.{log_text, head_text, spots_text, refused_text, spots_of, spot_cmp, totals_text, totals_of, end_line, placed_count, IsOrder, IsOrderOf}
+use Rattle.query_rules.specs.Log.{log_text, head_text, spots_text, refused_text, spots_of, spot_cmp, totals_text, totals_of, end_line, placed_count, IsOrderOf}
 use Rattle.query_text.proofs.Spots.{maps_count}
 use Rattle.log_reader.specs.declared.answered.Answered.{Answered}
 use Rattle.log_reader.specs.Listing.{IsNumber, IsQuery, IsReply, IsWritable, Listing, IsWritableListing, answered_line, answers_text, tail_text, listing_text, line_cmp, section_of, key_of, lines_totals}
-use Rattle.log_reader.specs.LogText.{answered_from, answered_of, IsPaired, IsLinesOf, IsLog, is_log, is_answer, has_reply, takes_below, listing, IsLogText}
+use Rattle.log_reader.specs.LogText.{answered_from, answered_of, IsPaired, is_log, is_answer, has_reply, takes_below, listing, IsLogText}
 use Rattle.log_reader.specs.IsLog.{IsLogOf, IsNoLog}
 use Rattle.log_reader.specs.Reading.{FailsOnly}
 use Rattle.log_reader.specs.declared.fault.LogFault.{LogFault}
@@ -66,6 +64,7 @@ refusals_all lines fits = pair (section_lines 1 lines) (section_all 1 lines) (fi
     no_key Busy h = refl
     no_key (Late now) h = refl
     no_key (Job at result) h = absurd (omega (arith, h))
+
     pair : (ls : List Answered) → AllByRecursion (IsIn 1) ls → AllByRecursion IsWritable ls → AllByRecursion IsRefusalLine ls
     pair [] a w = tt
     pair (x ∷ ls) a w = ((a.0, no_key x.reply a.0, w.0), pair ls a.1 w.1)
@@ -143,8 +142,8 @@ of_writable c (qs ∷ asked) [] room few asks tells = tt
 of_writable c (qs ∷ asked) (rs ∷ told) room few asks tells =
     let sum = sum_by-cons (length {A = Query}) qs asked in
     all_append IsWritable (answered_from c 0 qs rs) (answered_of (c + 1) asked told)
-      (from_writable c 0 qs rs (omega (arith, room)) (omega (arith, sum, few)) asks.0 tells.0)
-      (of_writable (c + 1) asked told (omega (arith, room)) (omega (arith, sum, few)) asks.1 tells.1)
+    (from_writable c 0 qs rs (omega (arith, room)) (omega (arith, sum, few)) asks.0 tells.0)
+    (of_writable (c + 1) asked told (omega (arith, room)) (omega (arith, sum, few)) asks.1 tells.1)
 
 from_numbers : (c i : ℕ) (qs : List Query) (rs : List Reply) → length qs ≡ length rs → AllByRecursion IsWritable (answered_from c i qs rs) → AllByRecursion IsQuery qs × AllByRecursion IsReply rs
 from_numbers c i [] [] same all = (tt, tt)
@@ -183,7 +182,7 @@ order_from section asked told lines paired each up =
     let k : ℕ = number_of_section section in
     record {
       each = subst (λ l. IsPermutation l (map spot_of (section_lines k lines))) (sym (spots_of_lines section 0 asked told paired))
-        (IsPermutation-map spot_of (section_lines k (answered_of 0 asked told)) (section_lines k lines) (filter_moved (is_in k) (answered_of 0 asked told) lines each));
+          (IsPermutation-map spot_of (section_lines k (answered_of 0 asked told)) (section_lines k lines) (filter_moved (is_in k) (answered_of 0 asked told) lines each));
       sorted = spots_sorted k (section_lines k lines) (section_all k lines) (filter_sorted (is_in k) lines up);
     }
 
@@ -220,14 +219,14 @@ log_from s rows told bytes h =
     let back : jobs ≡ drop (placed_count told) (maps ++ jobs) = back_is (placed_count told) maps jobs long in
     let at = all_moved (IsAt s.callers told) all lines each (lines_at s.callers told) in
     let refused : section_lines 1 all ≡ r =
-      sorted_lines (section_lines 1 all) r (filter_moved (is_in 1) all lines each)
-        (refusals_rise r (refusals_all lines h.log.writable.lines) (filter_sorted (is_in 1) lines up))
-        (rises_filter (is_in 1) all (lists_rise s.callers told fits)) in
+    sorted_lines (section_lines 1 all) r (filter_moved (is_in 1) all lines each)
+    (refusals_rise r (refusals_all lines h.log.writable.lines) (filter_sorted (is_in 1) lines up))
+    (rises_filter (is_in 1) all (lists_rise s.callers told fits)) in
     let totals = totals_are s.callers told lines paired each ∙ ap lines_totals whole in
     let same = parts_text s rows told (maps ++ jobs) maps jobs m r j front back
-      (spots_text_is s.callers told m (filter_all (IsAt s.callers told) (is_in 0) lines at))
-      (refused_is s.callers told ∙ ap text refused)
-      (spots_text_is s.callers told j (filter_all (IsAt s.callers told) (is_in 2) lines at)) totals in
+    (spots_text_is s.callers told m (filter_all (IsAt s.callers told) (is_in 0) lines at))
+    (refused_is s.callers told ∙ ap text refused)
+    (spots_text_is s.callers told j (filter_all (IsAt s.callers told) (is_in 2) lines at)) totals in
     let numbers = of_numbers 0 s.callers told paired fits in
     let good = all_moved (Answers s.cells) lines all (IsPermutation-sym all lines each) (all_true (is_answer s.cells) lines (and_parts _ (list_all (is_answer s.cells) lines) h.log.fits).1) in
     record {
@@ -322,13 +321,13 @@ lines_from s rows told bytes h =
     let r : List Answered = section_lines 1 all in
     let lines : List Answered = m.lines ++ (r ++ j.lines) in
     let each : IsPermutation all lines = IsPermutation-trans all _ lines (sections_moved all)
-      (IsPermutation-append (section_lines 0 all) m.lines (r ++ section_lines 2 all) (r ++ j.lines) m.moved (IsPermutation-append r r (section_lines 2 all) j.lines (IsPermutation-refl r) j.moved)) in
+    (IsPermutation-append (section_lines 0 all) m.lines (r ++ section_lines 2 all) (r ++ j.lines) m.moved (IsPermutation-append r r (section_lines 2 all) j.lines (IsPermutation-refl r) j.moved)) in
     let in_one = section_all 1 all in
     let later = sorted_append r j.lines (cross_sections 1 2 r j.lines (omega arith) in_one (at_least 2 2 j.lines (omega arith) j.in_section))
-      (refusals_sorted (is_in 1) all (lists_rise s.callers told fits) (refusals_all all fits)) j.sorted in
+    (refusals_sorted (is_in 1) all (lists_rise s.callers told fits) (refusals_all all fits)) j.sorted in
     let up = sorted_append m.lines (r ++ j.lines)
-      (cross_sections 0 1 m.lines (r ++ j.lines) (omega arith) m.in_section (all_append (λ b. 1 ≤ section_of b.reply) r j.lines (at_least 1 1 r (omega arith) in_one) (at_least 2 1 j.lines (omega arith) j.in_section)))
-      m.sorted later in
+    (cross_sections 0 1 m.lines (r ++ j.lines) (omega arith) m.in_section (all_append (λ b. 1 ≤ section_of b.reply) r j.lines (at_least 1 1 r (omega arith) in_one) (at_least 2 1 j.lines (omega arith) j.in_section)))
+    m.sorted later in
     let good = all_moved (Answers s.cells) all lines each (of_answers s.cells 0 s.callers told script.taken h.kinds) in
     let count = count_of 0 s.callers told paired in
     let long = length_permutation all lines each in

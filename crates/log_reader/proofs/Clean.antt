@@ -1,9 +1,9 @@
 -- Words without a space or a line feed, and the words of a line read again.
-use Rattle.std.proofs.Common.{◌≡◌, ℕ, ◌+◌, ◌<◌, ◌≤◌, ◌^◌, ◌==◌, ◌&&◌, Bool, true, false, List, [], ◌∷◌, ◌++◌, length, map, flat_map, decimal, codes, ◌≢◌, cond, not, take, Option, Some, None, length-append, refl, sym, ap, ◌∙◌, append_assoc, arith, rules, tests}
+use Rattle.std.proofs.Common.{◌≡◌, ℕ, ◌<◌, ◌≤◌, ◌^◌, ◌==◌, ◌&&◌, Bool, true, false, List, [], ◌∷◌, ◌++◌, length, map, decimal, ◌≢◌, cond, not, take, Option, Some, None, length-append, refl, sym, ap, ◌∙◌, append_assoc, arith, rules, tests}
 use Rattle.std.specs.List.{slice_split, onto_first, AllByRecursion}
 use Rattle.std.specs.Str.{all_ascii_digits}
 use Rattle.std.specs.Char.{is_ascii_digit}
-use Rattle.std.specs.Str.Parse.{digits_value, IsNumeral}
+use Rattle.std.specs.Str.Parse.{digits_value}
 use Rattle.std.proofs.lemmas.Str.Parse.{IsNumeralModel, numerals_by_value, tells_all_ascii_digits}
 use Rattle.std.proofs.lemmas.Fmt.{digits_decimal}
 use Rattle.std.proofs.lemmas.List.{append_cancel_left, take_all}
@@ -136,7 +136,6 @@ line_some [] rest = omega arith
 line_some (w ∷ ws) rest = grind (arith, length-append)
 
 module _ {X : Type 0} (fits : X → Type 0) (words : X → List (List ℕ)) (read : List (List ℕ) → Option X) (form : IsForm fits words read) where
-
   pub line_cut : (x : X) → fits x → (bytes rest line : List ℕ) (more : List (List ℕ)) → lines_of bytes ≡ line ∷ more → bytes ≡ line_of (words x) ++ rest → read (take 16 (words_of line)) ≡ Some x
   line_cut x fit bytes rest line more cut is =
       ap (λ ws. read (take 16 ws)) (words_cut (words x) (form.some x) (form.clean x fit) bytes rest line more cut is)

@@ -1,5 +1,5 @@
 -- Bytes that begin with a line, with two, with the lines of a log.
-use Rattle.std.proofs.Common.{◌≡◌, ◌≢◌, ℕ, ◌+◌, ◌<◌, ◌≤◌, Bool, true, false, List, [], ◌∷◌, ◌++◌, length, get_or, MatchBool, decimal, Option, Some, None, IfSome, codes, flat_map, append-nil, Bor, refl, sym, ap, ◌∙◌, append_assoc, length-append, arith}
+use Rattle.std.proofs.Common.{◌≡◌, ◌≢◌, ℕ, ◌<◌, Bool, true, false, List, [], ◌∷◌, ◌++◌, length, get_or, MatchBool, decimal, Option, Some, None, IfSome, codes, flat_map, append-nil, Bor, refl, sym, ap, ◌∙◌, append_assoc, length-append, arith}
 use Rattle.std.proofs.lemmas.List.{append_cancel_left}
 use Rattle.std.proofs.lemmas.List.Concat.{flat_map-append}
 use Rattle.std.specs.List.{AllByRecursion}
@@ -11,12 +11,9 @@ use Rattle.query_rules.specs.declared.query.Reply.{Reply}
 use Rattle.query_rules.specs.declared.query.Reply.TheVariants.{Placed, Busy, Late, Job}
 use Rattle.query_rules.specs.declared.query.Total.{Total}
 use Rattle.log_reader.specs.declared.answered.Answered.{Answered}
-use Rattle.log_reader.specs.declared.fault.LogFault.{LogFault}
-use Rattle.log_reader.specs.declared.fault.LogFault.TheVariants.{NoMemory, NotALog}
 use Rattle.log_reader.specs.declared.lines.Tables.{Tables}
-use Rattle.log_reader.specs.Listing.{IsWritable, IsNumber, answered_line, answered_words, answers_text, tail_text, lines_totals, listing_text, Listing, IsWritableListing}
-use Rattle.log_reader.specs.Reading.{FailsOnly}
-use Rattle.log_reader.specs.Fronts.{OnNone, NoLine, NoFront, NoTables, NoHead}
+use Rattle.log_reader.specs.Listing.{IsWritable, answered_line, answered_words, answers_text, tail_text, lines_totals, listing_text, Listing, IsWritableListing}
+use Rattle.log_reader.specs.Fronts.{OnNone, NoLine, NoTables, NoHead}
 use Rattle.log_reader.proofs.Clean.{front_same, rest_same}
 use Rattle.log_reader.proofs.Again.{answered_form, tables_form, AreTables}
 
@@ -81,7 +78,7 @@ answers_same [] (y ∷ ys) r s fx fy nr ns is = absurd (nr y fy.0 (answers_text 
 answers_same (x ∷ xs) [] r s fx fy nr ns is = absurd (ns x fx.0 (answers_text xs ++ r) (sym is ∙ append_assoc (answered_line x) (answers_text xs) r))
 answers_same (x ∷ xs) (y ∷ ys) r s fx fy nr ns is =
     let cut : answered_line x ++ (answers_text xs ++ r) ≡ answered_line y ++ (answers_text ys ++ s) =
-      sym (append_assoc (answered_line x) (answers_text xs) r) ∙ is ∙ append_assoc (answered_line y) (answers_text ys) s in
+    sym (append_assoc (answered_line x) (answers_text xs) r) ∙ is ∙ append_assoc (answered_line y) (answers_text ys) s in
     let first : x ≡ y = front_same _ _ _ answered_form x y _ _ fx.0 fy.0 cut in
     let more = answers_same xs ys r s fx.1 fy.1 nr ns (rest_same _ _ _ answered_form x y _ _ fx.0 fy.0 cut) in
     (ap (λ z. z ∷ xs) first ∙ ap (λ zs. y ∷ zs) more.0, more.1)
@@ -137,7 +134,7 @@ listing_same l k fl fk is =
     let nl : AreTables (l.cells, l.rows, l.callers) = (fl.cells, fl.rows, fl.callers) in
     let nk : AreTables (k.cells, k.rows, k.callers) = (fk.cells, fk.rows, fk.callers) in
     let cut : tables_line l.cells l.rows l.callers ++ x ≡ tables_line k.cells k.rows k.callers ++ y =
-      append_cancel_left name _ _ (sym (append_assoc name (tables_line l.cells l.rows l.callers) x) ∙ is ∙ append_assoc name (tables_line k.cells k.rows k.callers) y) in
+    append_cancel_left name _ _ (sym (append_assoc name (tables_line l.cells l.rows l.callers) x) ∙ is ∙ append_assoc name (tables_line k.cells k.rows k.callers) y) in
     let tables = front_same _ _ _ tables_form (l.cells, l.rows, l.callers) (k.cells, k.rows, k.callers) x y nl nk cut in
     let rest = rest_same _ _ _ tables_form (l.cells, l.rows, l.callers) (k.cells, k.rows, k.callers) x y nl nk cut in
     let lines = (answers_same l.lines k.lines (tail_text l.lines) (tail_text k.lines) fl.lines fk.lines (tail_no_line l.lines) (tail_no_line k.lines) rest).0 in

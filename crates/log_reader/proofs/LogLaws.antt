@@ -1,5 +1,5 @@
 -- What a log's text determines, and where a text is no log.
-use Rattle.std.proofs.Common.{◌≡◌, ◌≢◌, ℕ, ◌+◌, ◌<◌, ◌≤◌, Bool, true, false, List, [], ◌∷◌, ◌++◌, length, refl, sym, ap, subst, ◌∙◌, append-nil, arith, rules}
+use Rattle.std.proofs.Common.{◌≡◌, ◌≢◌, ℕ, true, false, List, [], ◌∷◌, ◌++◌, length, refl, sym, ap, subst, ◌∙◌, append-nil, arith}
 use Rattle.std.specs.Prelude.{IsSorted}
 use Rattle.std.specs.List.{AllByRecursion}
 use Rattle.std.specs.List.Sorted.{IsPermutation, IsNonDecreasingBy}
@@ -9,11 +9,11 @@ use Rattle.query_rules.specs.declared.query.Query.{Query}
 use Rattle.query_rules.specs.declared.query.Reply.{Reply}
 use Rattle.query_rules.specs.Grammar.{Asked}
 use Rattle.log_reader.specs.declared.answered.Answered.{Answered}
-use Rattle.log_reader.specs.Listing.{Listing, IsWritable, IsWritableListing, listing_text, answers_text, tail_text, line_cmp}
-use Rattle.log_reader.specs.LogText.{answered_of, IsPaired, IsLinesOf, IsLog, is_log, listing, IsLogText}
+use Rattle.log_reader.specs.Listing.{Listing, IsWritable, IsWritableListing, listing_text, line_cmp}
+use Rattle.log_reader.specs.LogText.{answered_of, is_log, listing, IsLogText}
 use Rattle.log_reader.specs.Grouping.{groups_of, Groups, slot}
-use Rattle.log_reader.proofs.Groups.{group_law, GroupLaw, groups_again}
-use Rattle.log_reader.proofs.Unique.{Rises, lists_rise, all_moved, moved_rising, sorted_lines}
+use Rattle.log_reader.proofs.Groups.{group_law, groups_again}
+use Rattle.log_reader.proofs.Unique.{lists_rise, all_moved, moved_rising, sorted_lines}
 use Rattle.log_reader.proofs.Front.{listing_same}
 
 abbrev pub NoLog : List ℕ → Type 0

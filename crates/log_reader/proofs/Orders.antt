@@ -1,6 +1,6 @@
 -- The order of lines: by section, then as their spots, and what a section of lines in order keeps.
-use Rattle.std.proofs.Common.{◌≡◌, ℕ, zero, suc, ◌+◌, ◌*◌, ◌^◌, ◌<◌, ◌≤◌, ◌==◌, Bool, true, false, cond, ◌⊎◌, inl, inr, List, [], ◌∷◌, ◌++◌, length, map, filter, get_or, All, AllPairs, refl, sym, ap, ◌∙◌, subst, arith, rules, tests, Less, Equal, Greater}
-use Rattle.std.specs.Prelude.{IsSorted, IsSortedBy}
+use Rattle.std.proofs.Common.{◌≡◌, ℕ, zero, suc, ◌+◌, ◌^◌, ◌<◌, ◌≤◌, Bool, true, false, ◌⊎◌, inl, inr, List, [], ◌∷◌, ◌++◌, length, map, filter, get_or, AllPairs, refl, sym, ap, ◌∙◌, subst, arith, rules, Less, Equal, Greater}
+use Rattle.std.specs.Prelude.{IsSorted}
 use Rattle.std.specs.declared.cmp.Ordering.{Ordering}
 use Rattle.std.specs.Ordering.{nat_cmp, ordering_then, is_lt}
 use Rattle.std.specs.List.{AllByRecursion}
@@ -51,9 +51,9 @@ cmp_tied m n r same h = tied_false (nat_cmp m n) r m n (ranks m n) same h
 module _ {X : Type 0} (f : X → ℕ) (R : X → X → Ordering) (o : IsStrictWeakOrder (λ x y. is_lt (R x y))) where
   then_one_way : (x y : X) → is_lt (ordering_then (nat_cmp (f x) (f y)) (R x y)) ≡ true → is_lt (ordering_then (nat_cmp (f y) (f x)) (R y x)) ≡ false
   then_one_way x y h = elim (less_true (nat_cmp (f x) (f y)) (R x y) (f x) (f y) (ranks (f x) (f y)) h) [
-      | inl lt ↦ cmp_above (f y) (f x) (R y x) lt
-      | inr p ↦ cmp_tied (f y) (f x) (R y x) (sym p.0) (o.one_way x y p.1)
-    ]
+    | inl lt ↦ cmp_above (f y) (f x) (R y x) lt
+    | inr p ↦ cmp_tied (f y) (f x) (R y x) (sym p.0) (o.one_way x y p.1)
+  ]
 
   then_chain : (x y z : X) → is_lt (ordering_then (nat_cmp (f x) (f y)) (R x y)) ≡ false → is_lt (ordering_then (nat_cmp (f y) (f z)) (R y z)) ≡ false → is_lt (ordering_then (nat_cmp (f x) (f z)) (R x z)) ≡ false
   then_chain x y z a b = by (cmp_false (f x) (f y) (R x y) a) (cmp_false (f y) (f z) (R y z) b)
@@ -141,7 +141,7 @@ slot_before a b ra rb lt =
     let ia = ra.2.index in
     let ib = rb.2.index in
     cmp_tied (section_of b.reply) (section_of a.reply) (by_key b a) (rb.0 ∙ sym ra.0)
-      (cmp_tied (key_of b.reply) (key_of a.reply) (by_caller b a) (rb.1 ∙ sym ra.1) (by (order a.caller b.caller)))
+    (cmp_tied (key_of b.reply) (key_of a.reply) (by_caller b a) (rb.1 ∙ sym ra.1) (by (order a.caller b.caller)))
   where
     order : (m n : ℕ) → (m < n) ⊎ ((m ≡ n) ⊎ (n < m))
     order m n = split (nat_cmp m n) (ranks m n)
@@ -150,6 +150,7 @@ slot_before a b ra rb lt =
         split Less k = inl k
         split Equal k = inr (inl k)
         split Greater k = inr (inr k)
+
     plain : (m n : ℕ) → n ≤ m → is_lt (nat_cmp m n) ≡ false
     plain m n le = split (nat_cmp m n) (ranks m n)
       where
@@ -157,6 +158,7 @@ slot_before a b ra rb lt =
         split Less k = absurd (omega (arith, k, le))
         split Equal k = refl
         split Greater k = refl
+
     by : (a.caller < b.caller) ⊎ ((a.caller ≡ b.caller) ⊎ (b.caller < a.caller)) → is_lt (by_caller b a) ≡ false
     by (inl p) = cmp_above b.caller a.caller (by_index b a) p
     by (inr (inl p)) = cmp_tied b.caller a.caller (by_index b a) (sym p) (plain b.index a.index (let h : a.index ≤ b.index = omega (arith, p, lt) in h))
@@ -172,12 +174,15 @@ slot_after a b ra rb h = by (cmp_false (section_of b.reply) (section_of a.reply)
         split Less k e = absurd (search (rules, e))
         split Equal k e = omega (arith, k)
         split Greater k e = omega (arith, k)
+
     by_last : (a.caller < b.caller) ⊎ ((b.caller ≡ a.caller) × (is_lt (by_index b a) ≡ false)) → slot a ≤ slot b
     by_last (inl p) = let ia : a.index < 2 ^ 64 = ra.2.index in omega (arith, p, ia)
     by_last (inr p) = let same = p.0 in let le = last b.index a.index p.1 in omega (arith, same, le)
+
     by_second : (key_of a.reply < key_of b.reply) ⊎ ((key_of b.reply ≡ key_of a.reply) × (is_lt (by_caller b a) ≡ false)) → slot a ≤ slot b
     by_second (inl p) = absurd (let x = ra.1 in let y = rb.1 in omega (arith, p, x, y))
     by_second (inr p) = by_last (cmp_false b.caller a.caller (by_index b a) p.1)
+
     by : (section_of a.reply < section_of b.reply) ⊎ ((section_of b.reply ≡ section_of a.reply) × (is_lt (by_key b a) ≡ false)) → slot a ≤ slot b
     by (inl p) = absurd (let x = ra.0 in let y = rb.0 in omega (arith, p, x, y))
     by (inr p) = by_second (cmp_false (key_of b.reply) (key_of a.reply) (by_caller b a) p.1)

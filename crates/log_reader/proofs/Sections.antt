@@ -1,9 +1,9 @@
 -- The lines of queries and replies by sections, and the texts and totals that they make.
-use Rattle.std.proofs.Common.{◌≡◌, ℕ, zero, suc, ◌+◌, ◌-◌, ◌<◌, ◌≤◌, ◌==◌, ◌^◌, Bool, true, false, cond, List, [], ◌∷◌, ◌++◌, length, map, filter, take, drop, flat_map, get_or, set, slice_get, Option, Some, None, sum_by, count_by, IsPermutation, swap, ◌⊎◌, inl, inr, refl, sym, ap, ◌∙◌, subst, append_assoc, append-nil, length-append, arith, rules, tests}
+use Rattle.std.proofs.Common.{◌≡◌, ℕ, zero, suc, ◌+◌, ◌-◌, ◌<◌, ◌≤◌, ◌==◌, Bool, true, false, cond, List, [], ◌∷◌, ◌++◌, length, map, filter, flat_map, get_or, set, slice_get, Some, count_by, IsPermutation, swap, ◌⊎◌, inl, inr, refl, sym, ap, ◌∙◌, subst, append_assoc, arith, rules, tests}
 use Rattle.std.specs.Prelude.{IsSorted}
 use Rattle.std.specs.Ordering.{is_lt}
 use Rattle.std.specs.List.{AllByRecursion}
-use Rattle.std.proofs.lemmas.List.{map-append, length-map}
+use Rattle.std.proofs.lemmas.List.{map-append}
 use Rattle.std.proofs.lemmas.List.Concat.{flat_map-append}
 use Rattle.std.proofs.lemmas.List.Sums.{sum_by-cons, sum_by-append}
 use Rattle.std.proofs.lemmas.List.Elements.{filter-append, recursion_from_All}
@@ -13,12 +13,11 @@ use Rattle.query_rules.specs.declared.query.Reply.{Reply}
 use Rattle.query_rules.specs.declared.query.Reply.TheVariants.{Placed, Busy, Late, Job}
 use Rattle.query_rules.specs.declared.query.Section.{Section}
 use Rattle.query_rules.specs.declared.query.Section.TheVariants.{Maps, Jobs}
-use Rattle.query_rules.specs.declared.query.Spot.{Spot}
 use Rattle.query_rules.specs.declared.query.Total.{Total}
 use Rattle.query_rules.specs.declared.query.Total.TheVariants as total
-use Rattle.query_rules.specs.Log.{key_in, spots_with, spots_from, spots_of, asked_at, told_at, line_at, spot_line, spots_text, answer_line, spot_cmp, refused_line, refused_from, refused_of, refused_text, is_counted, total_of, totals_of}
+use Rattle.query_rules.specs.Log.{key_in, spots_with, spots_from, spots_of, asked_at, told_at, line_at, spot_line, spots_text, spot_cmp, refused_line, refused_from, refused_of, is_counted, total_of, totals_of}
 use Rattle.log_reader.specs.declared.answered.Answered.{Answered}
-use Rattle.log_reader.specs.Listing.{answered_line, answers_text, line_cmp, section_of, key_of, counts, lines_total, lines_totals}
+use Rattle.log_reader.specs.Listing.{answered_line, line_cmp, section_of, counts, lines_total, lines_totals}
 use Rattle.log_reader.specs.LogText.{answered_from, answered_of, IsPaired}
 use Rattle.log_reader.proofs.Clean.{all_append}
 use Rattle.log_reader.proofs.Orders.{spot_of, IsIn, line_lt, line_order, cmp_false, sorted_tail}
@@ -72,7 +71,7 @@ same_first p x d (y ∷ ys) zero lt = same_two p x y ys
 same_first p x d (y ∷ ys) (suc j) lt =
     let z : Answered = get_or ys j d in
     IsPermutation-trans _ _ _ (same_two p x y ys)
-      (IsPermutation-trans _ _ _ (same_cons p y (x ∷ ys) (z ∷ set ys j x) (same_first p x d ys j (omega (arith, lt)))) (same_two p y z (set ys j x)))
+    (IsPermutation-trans _ _ _ (same_cons p y (x ∷ ys) (z ∷ set ys j x) (same_first p x d ys j (omega (arith, lt)))) (same_two p y z (set ys j x)))
 
 abbrev moved : Answered → List Answered → ℕ → ℕ → List Answered
 moved d l i j = set (set l i (get_or l j d)) j (get_or l i d)
@@ -238,9 +237,10 @@ from_at : (c i : ℕ) (qs : List Query) (rs : List Reply) → AllByRecursion (Is
 from_at c i [] rs = tt
 from_at c i (q ∷ qs) [] = tt
 from_at c i (q ∷ qs) (r ∷ rs) =
-    let none : i - i ≡ 0 = omega arith in
-    (record { past = omega arith; asks = ap (slice_get (q ∷ qs)) none; tells = ap (slice_get (r ∷ rs)) none },
-      all_weaker (IsFrom (i + 1) qs rs) (IsFrom i (q ∷ qs) (r ∷ rs)) (one_later i q r qs rs) (answered_from c (i + 1) qs rs) (from_at c (i + 1) qs rs))
+    let none : i - i ≡ 0 = omega arith in (
+      record { past = omega arith; asks = ap (slice_get (q ∷ qs)) none; tells = ap (slice_get (r ∷ rs)) none },
+      all_weaker (IsFrom (i + 1) qs rs) (IsFrom i (q ∷ qs) (r ∷ rs)) (one_later i q r qs rs) (answered_from c (i + 1) qs rs) (from_at c (i + 1) qs rs),
+    )
 
 from_caller : (c i : ℕ) (qs : List Query) (rs : List Reply) → AllByRecursion (λ a. a.caller ≡ c) (answered_from c i qs rs)
 from_caller c i [] rs = tt
@@ -282,8 +282,8 @@ of_at c [] told = tt
 of_at c (qs ∷ asked) [] = tt
 of_at c (qs ∷ asked) (rs ∷ told) =
     all_append (IsOf c (qs ∷ asked) (rs ∷ told)) (answered_from c 0 qs rs) (answered_of (c + 1) asked told)
-      (list_all_here c qs rs asked told (answered_from c 0 qs rs) (from_caller c 0 qs rs) (from_at c 0 qs rs))
-      (all_weaker (IsOf (c + 1) asked told) (IsOf c (qs ∷ asked) (rs ∷ told)) (list_later c qs rs asked told) (answered_of (c + 1) asked told) (of_at (c + 1) asked told))
+    (list_all_here c qs rs asked told (answered_from c 0 qs rs) (from_caller c 0 qs rs) (from_at c 0 qs rs))
+    (all_weaker (IsOf (c + 1) asked told) (IsOf c (qs ∷ asked) (rs ∷ told)) (list_later c qs rs asked told) (answered_of (c + 1) asked told) (of_at (c + 1) asked told))
 
 at_of : (asked : List (List Query)) (told : List (List Reply)) (a : Answered) → IsOf 0 asked told a → IsAt asked told a
 at_of asked told a h =

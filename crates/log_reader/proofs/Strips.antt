@@ -1,5 +1,5 @@
 -- Texts taken off the front of bytes, one after the other.
-use Rattle.std.proofs.Common.{◌≡◌, ◌≢◌, ℕ, ◌+◌, ◌<◌, ◌≤◌, List, [], ◌∷◌, ◌++◌, length, ◌-◌, take, drop, get_or, Option, Some, None, MatchOption, flat_map, append-nil, Bor, refl, sym, ap, ◌∙◌, append_assoc, arith}
+use Rattle.std.proofs.Common.{◌≡◌, ◌≢◌, ℕ, ◌<◌, ◌≤◌, List, [], ◌∷◌, ◌++◌, length, ◌-◌, take, drop, get_or, Option, Some, None, MatchOption, flat_map, append-nil, Bor, refl, sym, ap, ◌∙◌, append_assoc, arith}
 use Rattle.std.proofs.lemmas.List.{append_cancel_left, take_rest}
 
 pub strip_then : (bytes l rest m : List ℕ) (r : Option (Bor (List ℕ))) → bytes ≡ l ++ rest → MatchOption r ((t : List ℕ) → rest ≢ m ++ t) (λ x. rest ≡ m ++ x.now) → MatchOption r ((t : List ℕ) → bytes ≢ (l ++ m) ++ t) (λ x. bytes ≡ (l ++ m) ++ x.now)
@@ -21,7 +21,7 @@ strip_next f bytes rest after all made [] d some h next is = absurd (omega (arit
 strip_next f bytes rest after all made (x ∷ xs) d some h next is = rw (take_rest (x ∷ xs) 1) (record {
   front = h.front ++ f x;
   bytes_are = h.bytes_are ∙ ap (λ r. h.front ++ r) (next ∙ ap (λ m. m ++ after) is) ∙ sym (append_assoc h.front (f x) after);
-  all_is = h.all_is ∙ sym (append_assoc h.front (f x) (flat_map f xs))
+  all_is = h.all_is ∙ sym (append_assoc h.front (f x) (flat_map f xs));
 })
 
 pub strip_stop : {X : Type 0} (f : X → List ℕ) (bytes rest all made : List ℕ) (xs : List X) (d : X) → 1 ≤ length xs → Stripped bytes rest all (flat_map f xs) → ((t : List ℕ) → rest ≢ made ++ t) → made ≡ f (get_or xs 0 d)

@@ -1,6 +1,6 @@
 -- Two lists of the same lines, both in the order of callers and indexes, are one.
-use Rattle.std.proofs.Common.{◌≡◌, ◌≢◌, ℕ, ◌+◌, ◌*◌, ◌<◌, ◌≤◌, ◌^◌, ◌==◌, zero, suc, Bool, true, false, List, [], ◌∷◌, ◌++◌, length, map, get_or, refl, sym, ap, ◌∙◌, subst, arith, rules, tests, ◌⊎◌, inl, inr, eqb, Less}
-use Rattle.std.specs.List.{AllByRecursion, IsDistinct, Contains, All}
+use Rattle.std.proofs.Common.{◌≡◌, ℕ, ◌+◌, ◌*◌, ◌<◌, ◌≤◌, ◌^◌, false, List, [], ◌∷◌, ◌++◌, length, map, get_or, refl, sym, ap, ◌∙◌, subst, arith, rules, tests, ◌⊎◌, inl, inr, eqb, Less}
+use Rattle.std.specs.List.{AllByRecursion, IsDistinct}
 use Rattle.std.specs.Ordering.{nat_cmp}
 use Rattle.std.specs.List.Sorted.{IsPermutation, IsNonDecreasing, IsNonDecreasingBy, IsStrictlySortedBy}
 use Rattle.std.proofs.lemmas.List.{length-map, get_or-map}
@@ -86,9 +86,10 @@ up_of c (qs ∷ asked) (rs ∷ told) fits =
     let first = up_from c 0 qs rs parts.0 in
     let more = up_of (c + 1) asked told parts.1 in
     let low = weaker (λ b. c * 2 ^ 64 + 0 ≤ slot b) (λ b. c * 2 ^ 64 ≤ slot b) (λ b h. omega (arith, h)) (answered_from c 0 qs rs) first.0 in
-    let high = weaker (λ b. (c + 1) * 2 ^ 64 ≤ slot b) (λ b. c * 2 ^ 64 ≤ slot b) (λ b h. omega (arith, h)) (answered_of (c + 1) asked told) more.0 in
-    (all_append (λ b. c * 2 ^ 64 ≤ slot b) (answered_from c 0 qs rs) (answered_of (c + 1) asked told) low high,
-      rises_append ((c + 1) * 2 ^ 64) (answered_from c 0 qs rs) (answered_of (c + 1) asked told) first.1 more.0 first.2 more.1)
+    let high = weaker (λ b. (c + 1) * 2 ^ 64 ≤ slot b) (λ b. c * 2 ^ 64 ≤ slot b) (λ b h. omega (arith, h)) (answered_of (c + 1) asked told) more.0 in (
+      all_append (λ b. c * 2 ^ 64 ≤ slot b) (answered_from c 0 qs rs) (answered_of (c + 1) asked told) low high,
+      rises_append ((c + 1) * 2 ^ 64) (answered_from c 0 qs rs) (answered_of (c + 1) asked told) first.1 more.0 first.2 more.1,
+    )
 
 pub lists_rise : (asked : List (List Query)) (told : List (List Reply)) → AllByRecursion IsWritable (answered_of 0 asked told) → Rises (answered_of 0 asked told)
 lists_rise asked told fits = (up_of 0 asked told fits).1
@@ -104,8 +105,8 @@ all_moved P xs ys moved all = recursion_from_All P ys (All-permutation P xs ys m
 pub moved_rising : (xs ys : List Answered) → IsPermutation xs ys → Rises xs → Rises ys → xs ≡ ys
 moved_rising xs ys moved up down =
     same_rising xs ys up down
-      (all_moved (λ x. In x ys) ys xs (IsPermutation-sym xs ys moved) (in_self ys))
-      (all_moved (λ x. In x xs) xs ys moved (in_self xs))
+    (all_moved (λ x. In x ys) ys xs (IsPermutation-sym xs ys moved) (in_self ys))
+    (all_moved (λ x. In x xs) xs ys moved (in_self xs))
 
 distinct_slots : (xs : List Answered) → Rises xs → IsDistinct eqb (map slot xs)
 unfolding IsDistinct

@@ -1,5 +1,5 @@
 -- The words of a line, kept as slices.
-use Rattle.std.proofs.Common.{◌≡◌, ℕ, ◌≤◌, List, [], ◌∷◌, ◌++◌, length, map, take, drop, append-nil, Option, Some, None, option_map, nat_lt, cond, false, Bor, refl, sym, ap, ◌∙◌, rules, arith}
+use Rattle.std.proofs.Common.{◌≡◌, ℕ, ◌≤◌, List, [], ◌∷◌, ◌++◌, length, map, take, drop, append-nil, Option, None, option_map, nat_lt, false, Bor, refl, sym, ap, ◌∙◌, rules, arith}
 use Rattle.std.proofs.lemmas.List.{take-map, drop-map, length-map, take_all}
 use Rattle.query_rules.specs.Grammar.{numbers_in}
 use Rattle.std.proofs.Math.Seq.{take-append_seam}

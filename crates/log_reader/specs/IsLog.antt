@@ -1,7 +1,6 @@
 -- A text is a log, and of what.
 use Rattle.std.specs.Prelude.{◌≡◌, ℕ, List}
 use Rattle.std.specs.List.{AllByRecursion, AllZip}
-use Rattle.query_rules.specs.declared.query.Query.{Query}
 use Rattle.query_rules.specs.declared.query.Reply.{Reply}
 use Rattle.query_rules.specs.declared.query.Spot.{Spot}
 use Rattle.query_rules.specs.Grammar.{Asked, IsScript}

@@ -1,5 +1,5 @@
 -- Reading a line from left to right, word by word. The reading is lenient: what is read is then compared with its one spelling.
-use Rattle.std.specs.Prelude.{◌≡◌, ℕ, ◌+◌, ◌^◌, ◌&&◌, List, [], ◌∷◌, length, take, drop, Some, None, Ok, Err, nat_lt, if◌then◌else◌, bytes_eq, codes, option_map}
+use Rattle.std.specs.Prelude.{◌≡◌, ℕ, ◌^◌, ◌&&◌, List, [], ◌∷◌, length, take, drop, Some, None, Ok, Err, nat_lt, if◌then◌else◌, bytes_eq, codes, option_map}
 use Rattle.std.specs.declared.option.Option.{Option}
 use Rattle.std.specs.declared.result.Result.{Result}
 use Rattle.std.specs.Str.{all_ascii_digits}

@@ -3,9 +3,9 @@ ghost use Rattle.std.specs.Prelude.{◌≡◌, ◌≢◌, ◌+◌, ◌<◌, ◌�
 ghost use Rattle.log_reader.specs.Grouping.{front_of, groups_of, is_next as next_of};
 
 use crate::Answered;
+use ql_base::NoMemory;
 use query_rules::{Query, Reply};
 use query_text::{Callers, Outcome};
-use ql_base::NoMemory;
 use std::alloc::Global;
 
 fn is_next(answered: &Answered, caller: u64, index: u64) -> bool

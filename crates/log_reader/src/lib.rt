@@ -18,3 +18,6 @@ mod wide_number;
 pub use answered::Answered;
 pub use fault::LogFault;
 pub use read::{LogRead, a_text_says_one_log, read_log};
+
+#[cfg(test)]
+mod tests;

@@ -101,8 +101,7 @@ impl Tables {
         ensures cells { IsNumber self.cells }
         ensures rows { IsNumber self.rows }
         ensures callers { IsNumber self.callers }
-    {
-    }
+    {}
 }
 
 #[tactic(auto, unfolding(query_rules::specs::Log::tables_line))]

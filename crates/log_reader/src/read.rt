@@ -72,5 +72,4 @@ fn is_log(page: &Page) -> bool
 /// A law of the format: a text is the log of one script, one number of rows and one outcome.
 pub fn a_text_says_one_log()
     ensures { SaysOneLog }
-{
-}
+{}

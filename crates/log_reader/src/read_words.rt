@@ -44,10 +44,7 @@ fn first_number<'a>(words: &'a [&'a [u8]]) -> Option<(u64, &'a [&'a [u8]])>
     ensures { Finds (λ x. (x.0, map (λ w. w.now) x.1.now)) result (number_at (map (λ w. w.now) words.now)) }
 {
     match words {
-        [word, after @ ..] => match word_number(word) {
-            Some(n) => Some((n, after)),
-            None => None,
-        },
+        [word, after @ ..] => Some((word_number(word)?, after)),
         [] => None,
     }
 }
@@ -196,10 +193,7 @@ fn said_by_three(name: &[u8], second: &[u8], third: &[u8]) -> Option<Said>
 fn said_by_four(second: &[u8], fourth: &[u8]) -> Option<Said>
     ensures { result ≡ four_said second.now fourth.now }
 {
-    Some(Said::Pair(
-        Some(word_number(second)?),
-        Some(word_number(fourth)?),
-    ))
+    Some(Said::Pair(Some(word_number(second)?), Some(word_number(fourth)?)))
 }
 
 // What all these words say of the maps.

@@ -1,4 +1,4 @@
-use Rattle.std.proofs.Common.{◌≡◌, ◌<◌, ◌++◌, ◌∷◌, [], length, List}
+use Rattle.std.proofs.Common.{◌≡◌, ◌++◌, ◌∷◌, [], length, List}
 use Rattle.query_rules.specs.declared.query.Query.{Query}
 use Rattle.log_reader.proofs.group.add_list.Given as goal
 

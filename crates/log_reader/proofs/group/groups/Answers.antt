@@ -1,4 +1,4 @@
-use Rattle.std.proofs.Common.{arith, refl, rules, sym, ap, ◌∙◌, ◌-◌, ◌+◌, suc, map, ◌≡◌, ◌++◌, ◌∷◌, []}
+use Rattle.std.proofs.Common.{arith, ◌∙◌, ◌-◌, ◌+◌, suc, ◌≡◌, ◌∷◌, []}
 use Rattle.std.proofs.lemmas.List.{map-append}
 use Rattle.log_reader.specs.Grouping.{groups_of}
 use Rattle.log_reader.proofs.Groups.{groups_more, groups_end}
@@ -10,7 +10,7 @@ loop-caller-preserved c =
     let step : c.args.count - c.loop-caller.caller ≡ suc (c.args.count - (c.loop-caller.caller + 1)) = omega (arith, lt) in
     let q = c.in_ok-queries.ensures in
     rw (c.in_ok-push.ensures.items, map-append (λ v. v.items) c.loop-caller.told.items (c.in_ok-queries.replies ∷ []), c.in_ok-add_list.ensures, c.deref.ensures.value)
-      (groups_more _ _ c.loop-caller.caller _ _ _ c.loop-caller.rest.now c.in_ok-queries.after.now c.in_ok-queries.queries.items c.in_ok-queries.replies.items step q.queries q.replies q.rest c.loop-caller.invariant)
+    (groups_more _ _ c.loop-caller.caller _ _ _ c.loop-caller.rest.now c.in_ok-queries.after.now c.in_ok-queries.queries.items c.in_ok-queries.replies.items step q.queries q.replies q.rest c.loop-caller.invariant)
 
 pub returns : goal.returns
 returns c =

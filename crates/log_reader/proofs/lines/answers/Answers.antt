@@ -1,4 +1,4 @@
-use Rattle.std.proofs.Common.{arith, rules, refl, ◌∷◌, []}
+use Rattle.std.proofs.Common.{refl, ◌∷◌, []}
 use Rattle.log_reader.specs.Listing.{answers_text, IsWritable}
 use Rattle.log_reader.proofs.Clean.{all_append}
 use Rattle.log_reader.proofs.Front.{answers_next, answers_shorter}
@@ -14,4 +14,5 @@ loop-first-smaller c = answers_shorter c.loop-first.rest.now c.in-Some.after.now
 pub loop-first-preserved : goal.loop-first-preserved
 loop-first-preserved c = rw c.in_ok-push.ensures.items (
   answers_next c.args.bytes.now c.loop-first.rest.now c.in-Some.after.now c.loop-first.lines.items c.in-Some.first c.loop-first.invariant.0 c.in-Some.ensures.found,
-  all_append IsWritable c.loop-first.lines.items (c.in-Some.first ∷ []) c.loop-first.invariant.1 (c.in-Some.ensures.fits, tt))
+  all_append IsWritable c.loop-first.lines.items (c.in-Some.first ∷ []) c.loop-first.invariant.1 (c.in-Some.ensures.fits, tt),
+)

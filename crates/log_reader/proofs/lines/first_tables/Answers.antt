@@ -11,7 +11,7 @@ returns-then-is_empty-clause-none c = λ cells rows callers h i j rest. bytes_so
 pub returns-in_default-clause-none : goal.returns-in_default-clause-none
 unfolding tables_line
 returns-in_default-clause-none c = λ cells rows callers h i j.
-      no_line _ _ _ tables_form (cells, rows, callers) (h, i, j) c.args.bytes.now _ _ _ c.cut_line.ensures.cut (search rules) c.in_default.ensures
+    no_line _ _ _ tables_form (cells, rows, callers) (h, i, j) c.args.bytes.now _ _ _ c.cut_line.ensures.cut (search rules) c.in_default.ensures
 
 pub returns-in-None-clause-none : goal.returns-in-None-clause-none
 unfolding tables_line

@@ -1,5 +1,5 @@
 use Rattle.log_reader.proofs.LogLaws.{determined}
-use Rattle.log_reader.proofs.Bridge.{lines_from, log_from}
+use Rattle.log_reader.proofs.Bridge.{lines_from}
 use Rattle.log_reader.proofs.read.a_text_says_one_log.Goals as goal
 
 pub returns : goal.returns

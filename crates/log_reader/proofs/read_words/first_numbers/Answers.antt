@@ -1,6 +1,4 @@
-use Rattle.std.proofs.Common.{ℕ}
 use Rattle.std.proofs.lemmas.List.{take_rest}
-use Rattle.arrayvec.specs.declared.array_vec.ArrayVec.{ArrayVec}
 use Rattle.log_reader.proofs.Words.{numbers_front}
 use Rattle.log_reader.proofs.read_words.first_numbers.Goals as goal
 

@@ -1,4 +1,4 @@
-use Rattle.std.proofs.Common.{arith, sym, ◌≡◌, ◌+◌, ◌∙◌, ap, ◌++◌, length, map, List, ℕ, [], Bor}
+use Rattle.std.proofs.Common.{arith, sym, ◌≡◌, ◌∙◌, ap, ◌++◌, length, map}
 use Rattle.std.proofs.lemmas.List.{length-map}
 use Rattle.std.specs.Option.{option_copied}
 use Rattle.query_text.specs.Reads.{rest_words}
