@@ -1,5 +1,5 @@
 -- Bytes that begin with a line, with two, with the lines of a log.
-use Rattle.std.proofs.Common.{◌≡◌, ◌≢◌, ℕ, ◌<◌, Bool, true, false, List, [], ◌∷◌, ◌++◌, length, get_or, MatchBool, decimal, Option, Some, None, IfSome, codes, flat_map, append-nil, Bor, refl, sym, ap, ◌∙◌, append_assoc, length-append, arith}
+use Rattle.std.proofs.Common.{◌≡◌, ◌≢◌, ℕ, ◌<◌, Bool, true, false, List, [], ◌∷◌, ◌++◌, length, get_or, MatchBool, decimal, Option, Some, None, IfSome, IfNone, codes, flat_map, append-nil, Bor, refl, sym, ap, ◌∙◌, append_assoc, length-append, arith}
 use Rattle.std.proofs.lemmas.List.{append_cancel_left}
 use Rattle.std.proofs.lemmas.List.Concat.{flat_map-append}
 use Rattle.std.specs.List.{AllByRecursion}
@@ -13,7 +13,7 @@ use Rattle.query_rules.specs.declared.query.Total.{Total}
 use Rattle.log_reader.specs.declared.answered.Answered.{Answered}
 use Rattle.log_reader.specs.declared.lines.Tables.{Tables}
 use Rattle.log_reader.specs.Listing.{IsWritable, answered_line, answered_words, answers_text, tail_text, lines_totals, listing_text, Listing, IsWritableListing}
-use Rattle.log_reader.specs.Fronts.{OnNone, NoLine, NoTables, NoHead}
+use Rattle.log_reader.specs.Fronts.{NoLine, NoTables, NoHead}
 use Rattle.log_reader.proofs.Clean.{front_same, rest_same}
 use Rattle.log_reader.proofs.Again.{answered_form, tables_form, AreTables}
 
@@ -30,7 +30,7 @@ head_found (Some x) bytes made rest is same found = regroup bytes made _ _ rest 
 head_found None bytes made rest is same found = tt
 
 pub head_none : (r : Option (Tables × Bor (List ℕ))) (bytes made rest : List ℕ) → bytes ≡ made ++ rest → made ≡ number_line (codes "querylog") 1
-    → OnNone r (NoTables rest) → OnNone r (NoHead bytes)
+    → IfNone r (NoTables rest) → IfNone r (NoHead bytes)
 unfolding head_text
 head_none (Some x) bytes made rest is same none = tt
 head_none None bytes made rest is same none = λ cells rows callers h i j t whole. none cells rows callers h i j t (ungroup bytes made _ _ rest t is same whole)

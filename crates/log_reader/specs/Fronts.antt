@@ -1,14 +1,8 @@
 -- Bytes that don't begin with a line of a kind.
-use Rattle.std.specs.Prelude.{◌≢◌, ℕ, List, ◌++◌, Some, None}
-use Rattle.std.specs.declared.option.Option.{Option}
+use Rattle.std.specs.Prelude.{◌≢◌, ℕ, List, ◌++◌}
 use Rattle.query_rules.specs.Log.{tables_line, head_text}
 use Rattle.log_reader.specs.declared.answered.Answered.{Answered}
 use Rattle.log_reader.specs.Listing.{IsNumber, IsWritable, answered_line}
-
--- where nothing is found, this holds
-abbrev pub OnNone : {X : Type 0} → Option X → Type 0 → Type 0
-OnNone (Some x) P = Unit {0}
-OnNone None P = P
 
 -- no line of a query and its reply stands at the front
 abbrev pub NoLine : List ℕ → Type 0

@@ -1,11 +1,11 @@
 // The lines of a log, taken off the front of its bytes.
-ghost use Rattle.std.specs.Prelude.{◌≡◌, ◌≢◌, ◌+◌, ◌<◌, ◌≤◌, ◌++◌, ◌∷◌, [], ℕ, List, length, decimal, codes, map, MatchOption, IfOk, IfSome};
+ghost use Rattle.std.specs.Prelude.{◌≡◌, ◌≢◌, ◌+◌, ◌<◌, ◌≤◌, ◌++◌, ◌∷◌, [], ℕ, List, length, decimal, codes, map, MatchOption, IfOk, IfSome, IfNone};
 ghost use Rattle.std.specs.List.{AllByRecursion};
 ghost use Rattle.query_rules.specs.Log.{number_line, tables_line, head_text, answer_line};
 ghost use Rattle.query_text.specs.Spaced.{placed_bytes};
 ghost use Rattle.log_reader.specs.declared.answered.Answered.{Answered as answered_data};
 ghost use Rattle.log_reader.specs.Listing.{answered_line, answers_text, IsWritable, IsNumber};
-ghost use Rattle.log_reader.specs.Fronts.{OnNone, NoLine, NoTables, NoHead};
+ghost use Rattle.log_reader.specs.Fronts.{NoLine, NoTables, NoHead};
 
 use crate::Answered;
 use crate::read_words::{answered, line_words, tables};
@@ -69,7 +69,7 @@ fn line_for(answered: &Answered) -> Line
 pub fn first_answered(bytes: &[u8]) -> Option<(Answered, &[u8])>
     ensures found { IfSome result (λ x. bytes.now ≡ answered_line x.0 ++ x.1.now) }
     ensures fits { IfSome result (λ x. IsWritable x.0) }
-    ensures none { OnNone result (NoLine bytes.now) }
+    ensures none { IfNone result (NoLine bytes.now) }
 {
     if bytes.is_empty() {
         return None;
@@ -129,7 +129,7 @@ pub fn number_for(name: &[u8], n: u64) -> Line
 // The numbers of the line of tables, where it is the first, and what follows it.
 fn first_tables(bytes: &[u8]) -> Option<(Tables, &[u8])>
     ensures found { IfSome result (λ x. bytes.now ≡ tables_line x.0.cells x.0.rows x.0.callers ++ x.1.now) }
-    ensures none { OnNone result (NoTables bytes.now) }
+    ensures none { IfNone result (NoTables bytes.now) }
 {
     if bytes.is_empty() {
         return None;
@@ -156,7 +156,7 @@ fn first_tables(bytes: &[u8]) -> Option<(Tables, &[u8])>
 /// The first two lines, and what follows them.
 pub fn head(bytes: &[u8]) -> Option<(Tables, &[u8])>
     ensures found { IfSome result (λ x. bytes.now ≡ head_text x.0.cells x.0.rows x.0.callers ++ x.1.now) }
-    ensures none { OnNone result (NoHead bytes.now) }
+    ensures none { IfNone result (NoHead bytes.now) }
 {
     let line = number_for(b"querylog", 1);
     match strip_line(bytes, &line) {
