@@ -19,11 +19,17 @@ mod script_line;
 mod words;
 
 pub use log::write_log;
+pub use log_line::Line;
+pub use number::numbers as word_numbers;
 pub use outcome::{Outcome, Totals};
 pub use parse::{ParseFault, parse_script};
-pub use query_rules::{Cause, LedgerTold, LedgerTrouble, Query, Reply, Said, Section, Spot, Verb};
+pub use query_rules::{
+    Cause, LedgerTold, LedgerTrouble, Query, Reply, Said, Section, Spot, Verb,
+    number as word_number,
+};
 pub use refusal::{Refusal, write_refusal};
 pub use script::{Callers, Script};
+pub use words::{cut_line, cut_word};
 
 #[cfg(test)]
 mod tests;

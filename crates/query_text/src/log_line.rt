@@ -37,6 +37,13 @@ impl Line {
         Line { bytes }
     }
 
+    /// The bytes of the line so far.
+    pub fn as_bytes(&self) -> &[u8]
+        ensures { result.now ≡ self.now }
+    {
+        &self.bytes
+    }
+
     /// Adds a word, behind a space.
     pub fn word(&mut self, word: &[u8])
         requires { length self.old + length word.now < 254 }

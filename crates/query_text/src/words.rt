@@ -38,8 +38,8 @@ pub fn cut_line(bytes: &[u8]) -> (&[u8], &[u8])
     }
 }
 
-// Takes the first word off; where no space follows it, nothing is left.
-fn cut_word(text: &[u8]) -> (&[u8], Option<&[u8]>)
+/// Takes the first word off; where no space follows it, nothing is left.
+pub fn cut_word(text: &[u8]) -> (&[u8], Option<&[u8]>)
     ensures cut { words_of text.now ≡ result.0.now ∷ rest_words (option_copied result.1) }
     ensures shorter { IfSome result.1 (λ rest. length rest.now < length text.now) }
 {

@@ -1,0 +1,13 @@
+pub mod Words
+pub mod WideNumbers
+pub mod Clean
+pub mod Again
+pub mod Groups
+pub mod Strips
+pub mod Front
+pub mod Unique
+pub mod LogLaws
+pub mod ScriptLaw
+pub mod Orders
+pub mod Sections
+pub mod Bridge

@@ -1,0 +1,22 @@
+// Why a log was not read.
+ghost use Rattle.std.specs.Prelude.{◌≡◌};
+ghost use Rattle.log_reader.specs.declared.fault.LogFault.TheVariants as fault;
+
+use ql_base::NoMemory;
+
+/// Why a log was not read.
+#[derive(Clone, Copy, Debug, PartialEq, Eq)]
+pub enum LogFault {
+    /// The bytes are no text that a log of any script can have.
+    NotALog,
+    /// There was no memory for the lists.
+    NoMemory,
+}
+
+impl From<NoMemory> for LogFault {
+    ghost from_gives = { λ _ e. e ≡ fault.NoMemory };
+
+    fn from(_: NoMemory) -> Self {
+        LogFault::NoMemory
+    }
+}
