@@ -1,5 +1,5 @@
 -- Which reads of a lock's state word refuse an acquisition, as they stand among the steps that were made; and that whoever made them was not alone at the lock.
-use Rattle.std.specs.Prelude.{◌≡◌, ◌≢◌, ◌⊎◌, ℕ, ◌+◌, ◌<◌, ◌≤◌, true, false, List, [], ◌∷◌, ◌++◌, Some}
+use Rattle.std.specs.Prelude.{◌≡◌, ◌≢◌, ◌⊎◌, ℕ, ◌+◌, ◌<◌, ◌≤◌, true, false, List, [], ◌∷◌, ◌++◌, cond, eqb, Option, Some, None}
 use Rattle.std.proofs.Common.{arith, refl, sym, ap, ◌∙◌, subst, ⊎_elim, inl, inr, append_assoc}
 use mathlib.Core.Option.{some}
 use mathlib.Core.Logic.{dite}
@@ -20,7 +20,7 @@ use Rattle.hall.specs.Numbers.{covers, owns, Numbered}
 use Rattle.hall.specs.Plays.{conflicts_for_shared, conflicts_for_announcing}
 use Rattle.hall.specs.Reasons.{shared_bits, announcing_bits}
 use Rattle.hall.specs.Rule.{Holds}
-use Rattle.hall.specs.Trails.{last_read, Others, StrongOthers, Reasoned}
+use Rattle.hall.specs.Trails.{is_join, last_read, Others, StrongOthers, Reasoned}
 use Rattle.hall.specs.Views.{is_outside}
 
 module _ (shape : Shape) (number : ℕ) (steps : List StepEntry) (lock : ℕ) where
@@ -56,6 +56,34 @@ module _ (shape : Shape) (number : ℕ) (added steps : List StepEntry) (lock : �
 
   pub still_two_words : ReadTwoWords shape number steps lock → ReadTwoWords shape number (added ++ steps) lock
   still_two_words r = (added ++ r.0, r.1, r.2, r.3, ap (λ (l : List StepEntry). added ++ l) r.4 ∙ sym (append_assoc added r.0 (r.1 ∷ r.2)), r.5, r.6, r.7)
+
+has_before : {A : Type 0} (xs ys : List A) (a : A) → Has xs a → Has (xs ++ ys) a
+has_before [] ys a h = absurd h
+has_before (x ∷ xs) ys a h = ⊎_elim inl (λ t. inr (has_before xs ys a t)) h
+
+-- what was read last among the newer steps was read last
+still_read : (p n w : ℕ) (newer older : List StepEntry) → last_read p n newer ≡ Some w → last_read p n (newer ++ older) ≡ Some w
+still_read p n w [] older told = absurd (cc)
+still_read p n w (x ∷ xs) older told =
+    let here : Option ℕ = cond x.won None (Some x.word) in let few : Option ℕ = last_read p n xs in let all : Option ℕ = last_read p n (xs ++ older) in
+    elim (eqb x.number n) as (λ a. cond a (cond (is_join x.kind) None (cond (eqb x.place p) here few)) None ≡ Some w → cond a (cond (is_join x.kind) None (cond (eqb x.place p) here all)) None ≡ Some w) [
+      | true ↦ elim (is_join x.kind) as (λ b. cond b None (cond (eqb x.place p) here few) ≡ Some w → cond b None (cond (eqb x.place p) here all) ≡ Some w) [
+        | true ↦ λ e. e
+        | false ↦ elim (eqb x.place p) as (λ c. cond c here few ≡ Some w → cond c here all ≡ Some w) [ true ↦ λ e. e | false ↦ λ e. still_read p n w xs older e ]
+      ]
+      | false ↦ λ e. e
+    ] told
+
+-- the reads stay where the pass is taken in
+module _ (shape : Shape) (number : ℕ) (steps others : List StepEntry) (lock : ℕ) where
+  pub joined_busy_reading : BusyForReading shape number steps lock → BusyForReading shape number (steps ++ others) lock
+  joined_busy_reading r = (r.0, has_before steps others r.0 r.1, r.2, r.3, r.4)
+
+  pub joined_busy_writing : BusyForWriting shape number steps lock → BusyForWriting shape number (steps ++ others) lock
+  joined_busy_writing r = (r.0, has_before steps others r.0 r.1, r.2, r.3)
+
+  pub joined_two_words : ReadTwoWords shape number steps lock → ReadTwoWords shape number (steps ++ others) lock
+  joined_two_words r = (r.0, r.1, r.2 ++ others, r.3, ap (λ (l : List StepEntry). l ++ others) r.4 ∙ append_assoc r.0 (r.1 ∷ r.2) others, r.5, still_read (shape.slots + lock) number r.3 r.2 others r.6, r.7)
 
 reasoned_from : (R : ℕ → Type 0) (p : ℕ) (newer older : List StepEntry) → Reasoned R p (newer ++ older) → Reasoned R p older
 reasoned_from R p [] older h = h

@@ -19,7 +19,7 @@ use Rattle.hall.specs.Refusals.{BusyForReading, BusyForWriting, ReadTwoWords, se
 use Rattle.hall.specs.Rule.{Holds}
 use Rattle.hall.specs.Views.{after_step, footprints_left, standing}
 use Rattle.query_rules.specs.declared.query.Query.{Query}
-use Rattle.query_rules.specs.declared.query.Query.TheVariants.{Get, Len, Put, Del, Add, Cas, PutLen, Move, Both, TryGet, TryPut, GetBy, PutBy, Give, Take, Audit}
+use Rattle.query_rules.specs.declared.query.Query.TheVariants.{TryGet, TryPut, GetBy, PutBy}
 use Rattle.query_rules.specs.declared.query.Reply.{Reply}
 use Rattle.query_rules.specs.declared.query.Reply.TheVariants.{Placed, Busy, Late, Job}
 use Rattle.query_rules.specs.History.{StandsAt, is_write_at}
@@ -49,22 +49,13 @@ late_refuses deadline (Job at result) Reads h = absurd h
 module _ (shape : Shape) (number : ℕ) (steps : List StepEntry) where
   -- a reply that is allowed has no place
   pub is_refusal : (query : Query) (reply : Reply) → Licensed shape number steps query reply → IsRefusal reply
-  is_refusal (TryGet cell key) reply h = busy_refuses reply _ h
-  is_refusal (TryPut cell key value) reply h = busy_refuses reply _ h
-  is_refusal (GetBy cell key deadline) reply h = late_refuses deadline reply _ h
-  is_refusal (PutBy cell key value deadline) reply h = late_refuses deadline reply _ h
-  is_refusal (Get cell key) reply h = absurd h
-  is_refusal (Len cell) reply h = absurd h
-  is_refusal (Put cell key value) reply h = absurd h
-  is_refusal (Del cell key) reply h = absurd h
-  is_refusal (Add cell key delta) reply h = absurd h
-  is_refusal (Cas cell key old new) reply h = absurd h
-  is_refusal (PutLen cell key value) reply h = absurd h
-  is_refusal (Move a b key n) reply h = absurd h
-  is_refusal (Both a b key) reply h = absurd h
-  is_refusal (Give key n) reply h = absurd h
-  is_refusal (Take key n) reply h = absurd h
-  is_refusal Audit reply h = absurd h
+  is_refusal query reply h = elim query as (λ q. Licensed shape number steps q reply → IsRefusal reply) [
+    | TryGet cell key ↦ busy_refuses reply _
+    | TryPut cell key value ↦ busy_refuses reply _
+    | GetBy cell key deadline ↦ late_refuses deadline reply _
+    | PutBy cell key value deadline ↦ late_refuses deadline reply _
+    | _ ↦ λ h. absurd h
+  ] h
 
 -- a reply without a place stands in each history, and is no write there
 pub refusal_stands : (rows : ℕ) (opening : Maps) (writes : List Query) (query : Query) (reply : Reply) → IsRefusal reply → StandsAt rows opening writes (query, reply)
@@ -141,19 +132,10 @@ module _ {C P : Type 0} (g : Ghosts C P) (v w : View P) (lock found left : ℕ) 
 
   -- where a refusal is allowed there are two seats
   pub two_seats : (query : Query) (reply : Reply) → ((cell : ℕ) → Has (named_cells query) cell → cell < v.shape.locks) → Licensed v.shape v.number v.steps query reply → 1 < v.shape.seats
-  two_seats (TryGet cell key) reply below h = busy_two reply _ (reading_two cell (below cell (inl refl))) h
-  two_seats (TryPut cell key value) reply below h = busy_two reply _ (writing_two cell (below cell (inl refl))) h
-  two_seats (GetBy cell key deadline) reply below h = let n = below cell (inl refl) in late_two deadline reply _ (⊎_elim (reading_two cell n) (racing_two cell n)) h
-  two_seats (PutBy cell key value deadline) reply below h = let n = below cell (inl refl) in late_two deadline reply _ (⊎_elim (writing_two cell n) (racing_two cell n)) h
-  two_seats (Get cell key) reply below h = absurd h
-  two_seats (Len cell) reply below h = absurd h
-  two_seats (Put cell key value) reply below h = absurd h
-  two_seats (Del cell key) reply below h = absurd h
-  two_seats (Add cell key delta) reply below h = absurd h
-  two_seats (Cas cell key old new) reply below h = absurd h
-  two_seats (PutLen cell key value) reply below h = absurd h
-  two_seats (Move a b key n) reply below h = absurd h
-  two_seats (Both a b key) reply below h = absurd h
-  two_seats (Give key n) reply below h = absurd h
-  two_seats (Take key n) reply below h = absurd h
-  two_seats Audit reply below h = absurd h
+  two_seats query reply below h = elim query as (λ q. ((cell : ℕ) → Has (named_cells q) cell → cell < v.shape.locks) → Licensed v.shape v.number v.steps q reply → 1 < v.shape.seats) [
+    | TryGet cell key ↦ λ below. busy_two reply _ (reading_two cell (below cell (inl refl)))
+    | TryPut cell key value ↦ λ below. busy_two reply _ (writing_two cell (below cell (inl refl)))
+    | GetBy cell key deadline ↦ λ below. late_two deadline reply _ (⊎_elim (reading_two cell (below cell (inl refl))) (racing_two cell (below cell (inl refl))))
+    | PutBy cell key value deadline ↦ λ below. late_two deadline reply _ (⊎_elim (writing_two cell (below cell (inl refl))) (racing_two cell (below cell (inl refl))))
+    | _ ↦ λ below h. absurd h
+  ] below h
