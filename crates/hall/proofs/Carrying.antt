@@ -18,7 +18,6 @@ use Rattle.hall.specs.Numbers.{owns}
 use Rattle.hall.specs.Trails.{is_join, last_read, Heads, Reasoned, Others, StrongOthers}
 use Rattle.hall.proofs.Racing.{reasoned_more}
 use Rattle.hall.specs.declared.view.StepEntry.{StepEntry}
-use Rattle.hall.specs.declared.view.Footprint.{Footprint}
 use Rattle.hall.specs.Plays.{MakesNote, StoresNote}
 use Rattle.hall.specs.Rule.{Holds, Formed, cargo_seat}
 use Rattle.hall.specs.NumberLaws.{numbered_same}

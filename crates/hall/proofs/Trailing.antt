@@ -96,8 +96,11 @@ module _ {P : Type 0} (sh : Shape) (words : List ℕ) (views : List (View P)) (i
       (λ ne. grows _ (tr.strongly id v at k (ap is_strong (sym (elsewhere k ne)) ∙ h)))
 
   trodden_now : (m : Footprint) → Has after.trail m → (0 < v.span) × (1 ≤ owns m.number after)
-  trodden_now m has = (lives, ⊎_elim (λ is. subst (λ (z : Footprint). 1 ≤ owns z.number after) (sym is) (omega (arith, same-refl v.number))) (λ old. (tr.trodden id v at m old).1)
-      (left_or_old (is_away (standing v lock) && is_away y) (footprint v.number lock (is_strong (standing v lock) || is_strong y)) m v.trail has))
+  trodden_now m has = (
+    lives,
+    ⊎_elim (λ is. subst (λ (z : Footprint). 1 ≤ owns z.number after) (sym is) (omega (arith, same-refl v.number))) (λ old. (tr.trodden id v at m old).1)
+        (left_or_old (is_away (standing v lock) && is_away y) (footprint v.number lock (is_strong (standing v lock) || is_strong y)) m v.trail has),
+  )
 
   -- what another pass remembers
   abbrev Recalls : List ℕ → List (View P) → ℕ → ℕ → ℕ → Type 0
