@@ -21,7 +21,7 @@ use Rattle.map_cargo.specs.declared.entry.Told.{Told}
 use Rattle.map_cargo.specs.declared.entry.Told.TheVariants.{Wrote, Read}
 use Rattle.map_cargo.specs.declared.entry.Part.{Part}
 use Rattle.map_cargo.specs.Entries.{queries, as_reply}
-use Rattle.map_cargo.specs.History.{Seat, Stands, WrittenAs, ReadAfter, OneHistory, Rested, is_wrote, first_part}
+use Rattle.map_cargo.specs.History.{Seat, Stands, WrittenAs, ReadAfter, OneHistory, IsRested, is_wrote, first_part}
 use Rattle.map_cargo.specs.Laws.{all_stored}
 use Rattle.map_cargo.specs.Steps.{Ended}
 
@@ -34,7 +34,7 @@ sole f [] id q at none = absurd (some-ne-none q (sym at))
 sole f (x ∷ xs) zero q at none = omega (arith, ap f (some-injective x q at), nothing f xs (λ j u e. none (suc j) u e (λ bad. omega arith)))
 sole f (x ∷ xs) (suc id) q at none = omega (arith, none zero x refl (λ bad. omega arith), sole f xs id q at (λ j u e ne. none (suc j) u e (λ same. ne (omega arith))))
 
-pub ended : (opening : Maps) (c : MapCargo) (ws : List ℕ) (q : Seat) (id : ℕ) (whole : Type 0) → Rested q.part
+pub ended : (opening : Maps) (c : MapCargo) (ws : List ℕ) (q : Seat) (id : ℕ) (whole : Type 0) → IsRested q.part
     → (qs : List Seat) × OneHistory opening c ws qs × (get_elem? qs id ≡ some q) × (whole → (j : ℕ) (u : Seat) → get_elem? qs j ≡ some u → j ≢ id → u.part ≡ first_part) → Ended opening c ws q.part whole
 ended opening c ws q id whole rested t =
     let h = t.1 in let k = h.knows id q t.2 in record {
