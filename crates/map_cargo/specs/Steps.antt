@@ -120,5 +120,6 @@ module _ (opening : Maps) where
     pub number : slice_index ws (number_place c) ≡ length entries
     pub told : (t : Told) → Has p.told t → Stands opening c.rows entries t
     pub logged : (w : ℕ) (e : Entry) → Has p.told (Wrote w e) → (j : ℕ) → j < 8 → slice_index ws (log_place c w j) ≡ slice_index (log_words e) j
-    -- where all passes were joined, each write is in its replies, once
+    -- where all passes were joined, each number that was drawn is a write's in its replies, once
+    pub written : whole → (w : ℕ) → w < length entries → (e : Entry) × Has p.told (Wrote w e)
     pub all : whole → (w : ℕ) → w < length entries → total (is_wrote w) p.told ≡ 1
