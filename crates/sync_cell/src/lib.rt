@@ -17,3 +17,6 @@ pub use pointers::{ReadPtr, WritePtr};
 pub use timed::{rlock_until, wlock_until};
 pub use trying::{try_rlock, try_wlock, unlock_read, unlock_write};
 pub use waiting::{rlock, wlock};
+
+#[cfg(test)]
+mod tests;
