@@ -43,9 +43,7 @@ fn no_reader<A: Abort + Wait>(
 #[test]
 fn readers_are_late(rt: HostRuntime) -> Result<(), AllocError> {
     let made = Hall::make(rt.alloc(), 1, 32, Policy::WritePriority, 2, 0, NoCargo);
-    let Ok((hall, first)) = made else {
-        rt.abort()
-    };
+    let Ok((hall, first)) = made else { rt.abort() };
     let mut writer = first;
     let mut reader = hall.split(&mut writer, 1, 0);
     let mut even = ListClock::new(vec![in rt.alloc(); 0, 3, 5, 4]?);
@@ -56,15 +54,45 @@ fn readers_are_late(rt: HostRuntime) -> Result<(), AllocError> {
     let fault = TryFault::Busy { word: Word(8) };
 
     let (now, deadline) = (5, 5);
-    no_reader(&rt, &hall, &mut reader, &mut even, Late { now, deadline, fault });
+    no_reader(
+        &rt,
+        &hall,
+        &mut reader,
+        &mut even,
+        Late {
+            now,
+            deadline,
+            fault,
+        },
+    );
     assert_eq!(rt; even.now(), 4);
 
     let (now, deadline) = (9, 4);
-    no_reader(&rt, &hall, &mut reader, &mut falling, Late { now, deadline, fault });
+    no_reader(
+        &rt,
+        &hall,
+        &mut reader,
+        &mut falling,
+        Late {
+            now,
+            deadline,
+            fault,
+        },
+    );
     assert_eq!(rt; falling.now(), 3);
 
     let (now, deadline) = (7, 7);
-    no_reader(&rt, &hall, &mut reader, &mut jumping, Late { now, deadline, fault });
+    no_reader(
+        &rt,
+        &hall,
+        &mut reader,
+        &mut jumping,
+        Late {
+            now,
+            deadline,
+            fault,
+        },
+    );
     assert_eq!(rt; jumping.now(), 1);
 
     unlock_write(&hall, &mut writer, ptr);
@@ -75,9 +103,7 @@ fn readers_are_late(rt: HostRuntime) -> Result<(), AllocError> {
 #[test]
 fn a_free_cell_is_taken(rt: HostRuntime) -> Result<(), AllocError> {
     let made = Hall::make(rt.alloc(), 1, 32, Policy::WritePriority, 1, 0, NoCargo);
-    let Ok((hall, first)) = made else {
-        rt.abort()
-    };
+    let Ok((hall, first)) = made else { rt.abort() };
     let mut pass = first;
     let mut clock = ListClock::new(vec![in rt.alloc(); 7, 8]?);
     match rlock_until(&rt, &hall, &mut pass, 0, &mut clock, 0) {
@@ -105,9 +131,7 @@ fn a_free_cell_is_taken(rt: HostRuntime) -> Result<(), AllocError> {
 #[test]
 fn a_late_writer_is_away(rt: HostRuntime) -> Result<(), AllocError> {
     let made = Hall::make(rt.alloc(), 1, 32, Policy::WritePriority, 2, 0, NoCargo);
-    let Ok((hall, first)) = made else {
-        rt.abort()
-    };
+    let Ok((hall, first)) = made else { rt.abort() };
     let mut reader = first;
     let mut writer = hall.split(&mut reader, 1, 0);
     let mut clock = ListClock::new(vec![in rt.alloc(); 1, 6, 2]?);
@@ -121,7 +145,14 @@ fn a_late_writer_is_away(rt: HostRuntime) -> Result<(), AllocError> {
             let fault = TryFault::Busy {
                 word: Word(ONE + 4),
             };
-            assert_eq!(rt; late, Late { now: 6, deadline: 6, fault });
+            assert_eq!(rt;
+                late,
+                Late {
+                    now: 6,
+                    deadline: 6,
+                    fault
+                }
+            );
         }
     }
     assert_eq!(rt; clock.now(), 2);
@@ -133,9 +164,7 @@ fn a_late_writer_is_away(rt: HostRuntime) -> Result<(), AllocError> {
 #[test]
 fn tries_beside_a_reader(rt: HostRuntime) {
     let made = Hall::make(rt.alloc(), 1, 32, Policy::WritePriority, 2, 0, NoCargo);
-    let Ok((hall, first)) = made else {
-        rt.abort()
-    };
+    let Ok((hall, first)) = made else { rt.abort() };
     let mut reader = first;
     let mut other = hall.split(&mut reader, 1, 0);
     match try_rlock(&hall, &mut reader, 0) {
@@ -203,9 +232,7 @@ fn by_two_threads<R: Threads + Wait + Sync>(
 #[test]
 fn two_writers(rt: HostRuntime) {
     let made = Hall::make(rt.alloc(), 1, 4, Policy::WritePriority, 2, 0, NoCargo);
-    let Ok((hall, first)) = made else {
-        rt.abort()
-    };
+    let Ok((hall, first)) = made else { rt.abort() };
     let mut first = first;
     let second = hall.split(&mut first, 1, 0);
     let (left, right) = by_two_threads(&rt, &hall, first, second);
