@@ -1,0 +1,2 @@
+mod Acquired
+mod InTime

@@ -1,0 +1,88 @@
+-- Tries that were made one after the other, and what those that were refused leave to their pass.
+use Rattle.std.specs.Prelude.{◌≡◌, ℕ, Bool, true, false, List, [], ◌∷◌, ◌++◌, All, None}
+use Rattle.hall.specs.declared.cargo.CargoRule.{Ghosts}
+use Rattle.hall.specs.declared.guards.TryFault.{TryFault}
+use Rattle.hall.specs.declared.guards.TryFault.TheVariants.{Busy, Raced}
+use Rattle.hall.specs.declared.view.Kind.{Kind}
+use Rattle.hall.specs.declared.view.Kind.TheVariants as kinds
+use Rattle.hall.specs.declared.view.StepEntry.{StepEntry}
+use Rattle.hall.specs.declared.view.View.{View}
+use Rattle.hall.specs.Plays.{HoldMisses, Holding, Retracts}
+use Rattle.hall.specs.Reasons.{WasNotAlone}
+use Rattle.hall.specs.Views.{mode_of, place_of, standing}
+use Rattle.shared_mutex.specs.Acquiring.{TakesShared, RefusesShared, AnnouncesWriter, RefusesAnnouncing}
+
+-- tries that were all refused took v to w, each as `refuses` says; the newest fault stands first
+abbrev pub AllRefused : {V F : Type 0} → (V → V → F → Type 0) → V → List F → V → Type 0
+AllRefused {V} refuses v [] w = w ≡ v
+AllRefused {V} refuses v (fault ∷ faults) w = (u : V) × AllRefused refuses v faults u × refuses u w fault
+
+abbrev pub is_retract : Kind → Bool
+is_retract kinds.Retract = true
+is_retract kind = false
+
+module _ {P : Type 0} where
+  -- a load of a lock's word or an exchange on it that failed, under the pass's number, from the standing that it has there
+  abbrev pub IsLook : View P → ℕ → StepEntry → Type 0
+  IsLook v lock e = (e.number ≡ v.number) × (e.place ≡ place_of v lock) × (e.before ≡ standing v lock) × (e.won ≡ false) × (is_retract e.kind ≡ false)
+
+  -- a step on a lock's word, under the pass's number, by a pass that holds no mode there
+  abbrev pub IsTry : View P → ℕ → StepEntry → Type 0
+  IsTry v lock e = (e.number ≡ v.number) × (e.place ≡ place_of v lock) × (mode_of e.before ≡ None)
+
+  -- such a step, and none that takes an announcement back
+  abbrev pub IsPatientTry : View P → ℕ → StepEntry → Type 0
+  IsPatientTry v lock e = IsTry v lock e × (is_retract e.kind ≡ false)
+
+  -- the steps became more, and each new one is such a step
+  abbrev pub AddsSteps : (StepEntry → Type 0) → View P → View P → Type 0
+  AddsSteps is v w = (added : List StepEntry) × (w.steps ≡ added ++ v.steps) × All is added
+
+  -- looks at a lock's word add their steps and footprints, and change nothing else of the pass
+  pub record OnlyLooked (v : View P) (lock : ℕ) (w : View P) : Type 0 where
+    pub shape : w.shape ≡ v.shape
+    pub number : w.number ≡ v.number
+    pub span : w.span ≡ v.span
+    pub taken : w.taken ≡ v.taken
+    pub quota : w.quota ≡ v.quota
+    pub standings : w.standings ≡ v.standings
+    pub part : w.part ≡ v.part
+    pub steps : AddsSteps (IsLook v lock) v w
+
+module _ {C P : Type 0} (g : Ghosts C P) where
+  -- tries to enter that were refused with these faults
+  abbrev pub ReadersRefused : ℕ → View P → List TryFault → View P → Type 0
+  ReadersRefused lock = AllRefused (λ v w fault. RefusesShared g v lock w fault)
+
+  -- tries to announce a writer that were refused
+  abbrev pub WritersRefused : ℕ → View P → List TryFault → View P → Type 0
+  WritersRefused lock = AllRefused (λ v w fault. RefusesAnnouncing g v lock w fault)
+
+  -- the announced writer found readers inside, whom this word counts
+  abbrev pub MeetsReaders : View P → ℕ → View P → TryFault → Type 0
+  MeetsReaders v lock w (Busy word) = HoldMisses g v lock word w × WasNotAlone g w lock
+  MeetsReaders v lock w (Raced expected found) = ⊥
+
+  -- tries of an announced writer to take the lock that were refused
+  abbrev pub ReadersMet : ℕ → View P → List TryFault → View P → Type 0
+  ReadersMet lock = AllRefused (λ v w fault. MeetsReaders v lock w fault)
+
+  -- after tries that were refused with these faults, and that only looked, a try entered
+  abbrev pub EntersAtLast : View P → ℕ → List TryFault → View P → Type 0
+  EntersAtLast v lock faults w = (u : View P) × ReadersRefused lock v faults u × OnlyLooked v lock u × TakesShared g u lock w
+
+  -- and so for a try that announced a writer
+  abbrev pub AnnouncesAtLast : View P → ℕ → List TryFault → View P → Type 0
+  AnnouncesAtLast v lock faults w = (u : View P) × WritersRefused lock v faults u × OnlyLooked v lock u × AnnouncesWriter g u lock w
+
+  -- and so for one by which the announced writer took the lock
+  abbrev pub HoldsAtLast : View P → ℕ → List TryFault → View P → Type 0
+  HoldsAtLast v lock misses w = (u : View P) × ReadersMet lock v misses u × OnlyLooked v lock u × Holding g u lock 4 w
+
+  -- a writer was announced at last, and then took the lock at last; it stayed announced in between
+  abbrev pub WritesAtLast : View P → ℕ → List TryFault → List TryFault → View P → Type 0
+  WritesAtLast v lock faults misses w = (a : View P) × AnnouncesAtLast v lock faults a × HoldsAtLast a lock misses w
+
+  -- a writer was announced at last, met readers at each of some tries, and then took its announcement back
+  abbrev pub GivesUp : View P → ℕ → List TryFault → List TryFault → View P → Type 0
+  GivesUp v lock faults misses w = (a : View P) × AnnouncesAtLast v lock faults a × ((u : View P) × ReadersMet lock a misses u × OnlyLooked a lock u × ((found : ℕ) × Retracts g u lock found w))

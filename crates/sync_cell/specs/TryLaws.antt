@@ -1,0 +1,97 @@
+-- Laws of tries that were refused: they only looked.
+use Rattle.std.specs.Prelude.{◌≡◌, ℕ, ◌+◌, false, List, [], ◌∷◌, ◌++◌, slice_index_or}
+use Rattle.std.proofs.Common.{refl, sym, ap, ◌∙◌, append_assoc}
+use Rattle.std.proofs.lemmas.List.{set-get_or}
+use Rattle.std.proofs.lemmas.List.Elements.{All-nil, All-cons, All-append}
+use Rattle.hall.specs.declared.cargo.CargoRule.{Ghosts}
+use Rattle.hall.specs.declared.guards.TryFault.{TryFault}
+use Rattle.hall.specs.declared.guards.TryFault.TheVariants.{Busy, Raced}
+use Rattle.hall.specs.declared.view.Kind.{Kind}
+use Rattle.hall.specs.declared.view.Kind.TheVariants as kinds
+use Rattle.hall.specs.declared.view.Shape.{Shape}
+use Rattle.hall.specs.declared.view.Standing.{Standing}
+use Rattle.hall.specs.declared.view.Standing.TheVariants.{Away}
+use Rattle.hall.specs.declared.view.StepEntry.{StepEntry}
+use Rattle.hall.specs.declared.view.View.{View}
+use Rattle.hall.specs.Views.{after_look, entry_of, standing}
+use Rattle.shared_mutex.specs.Acquiring.{RefusesShared, RefusesAnnouncing}
+use Rattle.sync_cell.specs.Tries.{AllRefused, AddsSteps, IsLook, MeetsReaders, OnlyLooked, ReadersMet, ReadersRefused, WritersRefused, is_retract}
+
+module _ {P : Type 0} where
+  pub adds_none : (is : StepEntry → Type 0) (v w : View P) → w ≡ v → AddsSteps is v w
+  adds_none is v w same = ([], ap (λ (z : View P). z.steps) same, All-nil is)
+
+  pub adds_then : (is : StepEntry → Type 0) (v u w : View P) → AddsSteps is v u → AddsSteps is u w → AddsSteps is v w
+  adds_then is v u w a b = (b.0 ++ a.0, b.1 ∙ ap (λ (l : List StepEntry). b.0 ++ l) a.1 ∙ sym (append_assoc b.0 a.0 v.steps), All-append is b.0 a.0 b.2 a.2)
+
+  pub adds_as : (is so : StepEntry → Type 0) (v w : View P) → ((e : StepEntry) → is e → so e) → AddsSteps is v w → AddsSteps so v w
+  adds_as is so v w each a = (a.0, a.1, λ k d lt. each (slice_index_or a.0 k d) (a.2 k d lt))
+
+  -- no look
+  pub looked_none : (v w : View P) (lock : ℕ) → w ≡ v → OnlyLooked v lock w
+  looked_none v w lock same = record {
+    shape = ap (λ (z : View P). z.shape) same;
+    number = ap (λ (z : View P). z.number) same;
+    span = ap (λ (z : View P). z.span) same;
+    taken = ap (λ (z : View P). z.taken) same;
+    quota = ap (λ (z : View P). z.quota) same;
+    standings = ap (λ (z : View P). z.standings) same;
+    part = ap (λ (z : View P). z.part) same;
+    steps = adds_none (IsLook v lock) v w same;
+  }
+
+  -- one look
+  pub looked_once : (v w : View P) (kind : Kind) (lock word : ℕ) → is_retract kind ≡ false → w ≡ after_look v kind lock word → OnlyLooked v lock w
+  looked_once v w kind lock word patient is = record {
+    shape = ap (λ (z : View P). z.shape) is;
+    number = ap (λ (z : View P). z.number) is;
+    span = ap (λ (z : View P). z.span) is;
+    taken = ap (λ (z : View P). z.taken) is;
+    quota = ap (λ (z : View P). z.quota) is;
+    standings = ap (λ (z : View P). z.standings) is ∙ set-get_or v.standings lock Away;
+    part = ap (λ (z : View P). z.part) is;
+    steps = (entry_of v kind lock word false ∷ [], ap (λ (z : View P). z.steps) is, All-cons (IsLook v lock) (entry_of v kind lock word false) [] (refl, refl, refl, refl, patient) (All-nil (IsLook v lock)));
+  }
+
+  -- looks after looks
+  pub looked_then : (v u w : View P) (lock : ℕ) → OnlyLooked v lock u → OnlyLooked u lock w → OnlyLooked v lock w
+  looked_then v u w lock a b =
+      let place : u.shape.slots + lock ≡ v.shape.slots + lock = ap (λ (s : Shape). s.slots + lock) a.shape in
+      let stands : standing u lock ≡ standing v lock = ap (λ (l : List Standing). slice_index_or l lock Away) a.standings in record {
+        shape = b.shape ∙ a.shape;
+        number = b.number ∙ a.number;
+        span = b.span ∙ a.span;
+        taken = b.taken ∙ a.taken;
+        quota = b.quota ∙ a.quota;
+        standings = b.standings ∙ a.standings;
+        part = b.part ∙ a.part;
+        steps = adds_then (IsLook v lock) v u w a.steps (adds_as (IsLook u lock) (IsLook v lock) u w (λ e p. (p.0 ∙ a.number, p.1 ∙ place, p.2 ∙ stands, p.3, p.4)) b.steps);
+      }
+
+  -- refused tries that each only looked
+  pub all_looked : (refuses : View P → View P → TryFault → Type 0) (lock : ℕ) → ((u w : View P) (f : TryFault) → refuses u w f → OnlyLooked u lock w) → (v w : View P) (fs : List TryFault) → AllRefused refuses v fs w → OnlyLooked v lock w
+  all_looked refuses lock each v w [] r = looked_none v w lock r
+  all_looked refuses lock each v w (f ∷ fs) r = looked_then v r.0 w lock (all_looked refuses lock each v r.0 fs r.1) (each r.0 w f r.2)
+
+module _ {C P : Type 0} (g : Ghosts C P) where
+  pub reader_looked : (v : View P) (lock : ℕ) (w : View P) (f : TryFault) → RefusesShared g v lock w f → OnlyLooked v lock w
+  reader_looked v lock w (Busy word) r = looked_once v w kinds.Load lock word refl r.1
+  reader_looked v lock w (Raced expected found) r = looked_then v (after_look v kinds.Load lock expected) w lock (looked_once v (after_look v kinds.Load lock expected) kinds.Load lock expected refl refl) (looked_once (after_look v kinds.Load lock expected) w kinds.Enter lock found refl r.1)
+
+  pub writer_looked : (v : View P) (lock : ℕ) (w : View P) (f : TryFault) → RefusesAnnouncing g v lock w f → OnlyLooked v lock w
+  writer_looked v lock w (Busy word) r = looked_once v w kinds.Load lock word refl r.1
+  writer_looked v lock w (Raced expected found) r = looked_then v (after_look v kinds.Load lock expected) w lock (looked_once v (after_look v kinds.Load lock expected) kinds.Load lock expected refl refl) (looked_once (after_look v kinds.Load lock expected) w kinds.Announce lock found refl r.1)
+
+  pub meeting_looked : (v : View P) (lock : ℕ) (w : View P) (f : TryFault) → MeetsReaders g v lock w f → OnlyLooked v lock w
+  meeting_looked v lock w (Busy word) r = looked_once v w kinds.Hold lock word refl r.0.1.0
+  meeting_looked v lock w (Raced expected found) r = absurd r
+
+  -- readers, writers and announced writers that were refused only looked
+  pub readers_looked : (v : View P) (lock : ℕ) (w : View P) (fs : List TryFault) → ReadersRefused g lock v fs w → OnlyLooked v lock w
+  readers_looked v lock w fs r = all_looked (λ v w f. RefusesShared g v lock w f) lock (λ u w f. reader_looked u lock w f) v w fs r
+
+  pub writers_looked : (v : View P) (lock : ℕ) (w : View P) (fs : List TryFault) → WritersRefused g lock v fs w → OnlyLooked v lock w
+  writers_looked v lock w fs r = all_looked (λ v w f. RefusesAnnouncing g v lock w f) lock (λ u w f. writer_looked u lock w f) v w fs r
+
+  pub meetings_looked : (v : View P) (lock : ℕ) (w : View P) (fs : List TryFault) → ReadersMet g lock v fs w → OnlyLooked v lock w
+  meetings_looked v lock w fs r = all_looked (λ v w f. MeetsReaders g v lock w f) lock (λ u w f. meeting_looked u lock w f) v w fs r

@@ -1,0 +1,25 @@
+//! Read and write calls on the cells of a hall: try, wait, wait until a deadline, or do some work while a cell is held.
+//! They follow Folly's `Synchronized`.
+//!
+//! A cell is a lock of the hall and what the hall's cargo keeps behind it. The crate stands on the tries of
+//! `shared_mutex`, which never wait, and adds no step of its own. It serves any cargo.
+//!
+//! Its contracts say what a call that returned has done: which tries were refused and why, what they left, and the one
+//! step that gained the hold, with its moment. A waiting writer stays announced between its tries. Nothing is promised
+//! of a wait's end. No call takes memory.
+#![tactic(auto)]
+
+mod pointers;
+mod timed;
+mod trying;
+mod waiting;
+mod within;
+
+pub use pointers::{ReadPtr, WritePtr};
+pub use timed::{rlock_until, wlock_until};
+pub use trying::{try_rlock, try_wlock, unlock_read, unlock_write};
+pub use waiting::{rlock, wlock};
+pub use within::{ReadWork, WriteWork, with_rlock, with_wlock};
+
+#[cfg(test)]
+mod tests;

@@ -1,0 +1,36 @@
+//! What a pass that holds a cell has in its hands.
+ghost use Rattle.std.specs.Prelude.{◌≡◌};
+
+use hall::{ExclusiveGuard, SharedGuard};
+
+/// A cell held for reading. The right to the cell is the pass's standing, which this value names. It must be given back
+/// by `unlock_read`: code that drops it doesn't compile.
+#[derive(Debug)]
+pub struct ReadPtr {
+    pub guard: SharedGuard,
+}
+
+impl ReadPtr {
+    /// Which cell it is.
+    pub fn cell(&self) -> u64
+        ensures { result ≡ self.now.guard.lock }
+    {
+        self.guard.lock
+    }
+}
+
+/// A cell held for writing. The right to the cell is the pass's standing, which this value names. It must be given back
+/// by `unlock_write`: code that drops it doesn't compile.
+#[derive(Debug)]
+pub struct WritePtr {
+    pub guard: ExclusiveGuard,
+}
+
+impl WritePtr {
+    /// Which cell it is.
+    pub fn cell(&self) -> u64
+        ensures { result ≡ self.now.guard.lock }
+    {
+        self.guard.lock
+    }
+}
