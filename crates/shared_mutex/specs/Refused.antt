@@ -1,18 +1,16 @@
 -- What a refused call leaves among the steps of its pass: the reads for which the lock refuses.
-use Rattle.std.specs.Prelude.{◌≡◌, ℕ, ◌+◌, ◌∷◌, [], List, Option, Some, None, cond, eqb, true, false}
+use Rattle.std.specs.Prelude.{◌≡◌, ℕ, [], Option, Some, None, cond, eqb, false}
 use Rattle.std.proofs.Common.{refl, sym, ap, ◌∙◌, subst, inl, inr, eq-eqb, ⊎_elim}
-use Rattle.lock_model.specs.Locks.{Has}
 use Rattle.hall.specs.declared.cargo.CargoRule.{Ghosts}
 use Rattle.hall.specs.declared.guards.TryFault.{TryFault}
 use Rattle.hall.specs.declared.guards.TryFault.TheVariants.{Busy, Raced}
 use Rattle.hall.specs.declared.view.Kind.{Kind}
 use Rattle.hall.specs.declared.view.Kind.TheVariants as kinds
 use Rattle.hall.specs.declared.view.Standing.TheVariants.{Away}
-use Rattle.hall.specs.declared.view.StepEntry.{StepEntry}
 use Rattle.hall.specs.declared.view.View.{View}
-use Rattle.hall.specs.Refusals.{BusyForReading, BusyForWriting, ReadTwoWords, still_busy_writing}
+use Rattle.hall.specs.Refusals.{BusyForReading, BusyForWriting, ReadTwoWords}
 use Rattle.hall.specs.Trails.{last_read}
-use Rattle.hall.specs.Views.{after_look, after_step, entry_of, is_outside, place_of, standing}
+use Rattle.hall.specs.Views.{after_look, entry_of, is_outside, place_of, standing}
 use Rattle.shared_mutex.specs.Acquiring.{FoundReaders, RefusesAnnouncing, RefusesExclusive, RefusesShared}
 
 module _ {P : Type 0} where

@@ -1,5 +1,5 @@
 -- What a call with a deadline that was late leaves among the steps of its pass: the reads for which the cell's lock refused it last.
-use Rattle.std.specs.Prelude.{◌≡◌, ℕ, ◌+◌, List, [], ◌∷◌, slice_index_or, true, false}
+use Rattle.std.specs.Prelude.{◌≡◌, ℕ, List, ◌∷◌, slice_index_or, true, false}
 use Rattle.std.specs.declared.option.Option.{Option}
 use Rattle.std.proofs.Common.{refl, sym, ap, ◌∙◌, subst, inl, inr, ⊎_elim}
 use Rattle.hall.specs.declared.cargo.CargoRule.{Ghosts}
@@ -13,7 +13,7 @@ use Rattle.hall.specs.Plays.{Retracts}
 use Rattle.hall.specs.Refusals.{BusyForWriting}
 use Rattle.hall.specs.Views.{entry_of, standing}
 use Rattle.shared_mutex.specs.Refused.{ReadAsReader, ReadAsWriter, announcing_refused, reader_refused}
-use Rattle.sync_cell.specs.Tries.{GivesUp, MeetsReaders, OnlyLooked, ReadersRefused, WritersRefused}
+use Rattle.sync_cell.specs.Tries.{MeetsReaders, OnlyLooked, ReadersRefused, WritersRefused}
 use Rattle.sync_cell.specs.TryLaws.{readers_looked, writers_looked}
 use Rattle.sync_cell.specs.Waits.{GaveUpLate}
 
