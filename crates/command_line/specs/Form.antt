@@ -1,5 +1,5 @@
 -- Which words are of the form, and what they ask for.
-use Rattle.std.specs.Prelude.{ℕ, ◌&&◌, List, Some, None, codes, if◌then◌else◌, nat_le, option_and_then, map, String, string_bytes}
+use Rattle.std.specs.Prelude.{ℕ, ◌<◌, ◌≤◌, ◌&&◌, List, Some, None, codes, if◌then◌else◌, nat_le, option_and_then, map, String, string_bytes}
 use Rattle.std.specs.Str.{bytes_eq}
 use Rattle.std.specs.declared.alloc.Global.{Global}
 use Rattle.std.specs.declared.option.Option.{Option}
@@ -52,3 +52,7 @@ texts_of words = map (λ w. string_bytes w) words
 -- the words are of the form, and ask for this, or they aren't
 abbrev pub options_in : List (String Global) → Option Options
 options_in words = if takes program (texts_of words) then options_of (matches_of program (texts_of words)) else None
+
+-- options are within the limits of a run
+abbrev pub IsWithinLimits : Options → Type 0
+IsWithinLimits o = (0 < o.rows) × (o.rows ≤ 65536) × (0 < o.slots) × (o.slots ≤ 256)

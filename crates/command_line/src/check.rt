@@ -1,7 +1,7 @@
 // From words to options.
 ghost use Rattle.std.specs.Prelude.{◌≡◌, ◌≤◌, true, false, IfOk, IfSome, IfErr, IsErrOf, Some, None, map, option_map, codes, string_bytes};
 ghost use Rattle.clap.specs.Words.{app_of, first_of, found_of, matches_of, rows_of, rule_of, takes};
-ghost use Rattle.command_line.specs.Form.{mode_named, number_or, options_in, options_of, policy_or, texts_of};
+ghost use Rattle.command_line.specs.Form.{IsWithinLimits, mode_named, number_or, options_in, options_of, policy_or, texts_of};
 ghost use Rattle.command_line.specs.Program.{option_rule, program};
 
 use crate::{Options, Policy, RunMode, WordsFault};
@@ -69,9 +69,9 @@ fn policy_from(word: Option<&str>) -> Option<Policy>
 // A number in its bounds, or the default.
 #[tactic(auto, unfolding(crate::specs::Form::number_or))]
 fn number_from(word: Option<&str>, low: u64, high: u64, default: u64) -> Option<u64>
-    requires { default ≤ high }
+    requires { (low ≤ default) × (default ≤ high) }
     ensures value { result ≡ number_or low high default (option_map (λ s. s.now) word.entry) }
-    ensures within { IfSome result (λ n. n ≤ high) }
+    ensures within { IfSome result (λ n. (low ≤ n) × (n ≤ high)) }
 {
     let Some(word) = word else {
         return Some(default);
@@ -85,7 +85,8 @@ fn number_from(word: Option<&str>, low: u64, high: u64, default: u64) -> Option<
 // What the values of the arguments ask for.
 #[tactic(auto, unfolding(crate::specs::Form::options_of))]
 fn options(matches: &ArgMatches<'_>) -> Option<Options>
-    ensures { result ≡ options_of (rows_of (found_of matches.now)) }
+    ensures value { result ≡ options_of (rows_of (found_of matches.now)) }
+    ensures limits { IfSome result IsWithinLimits }
 {
     let mode = mode_from(given(matches, "mode")?)?;
     let rows = number_from(given(matches, "rows"), 1, 65_536, 1024)?;
@@ -118,6 +119,7 @@ fn matches_in<'a>(alloc: Global, words: &'a [String]) -> Result<ArgMatches<'a>, 
 pub fn check_words(alloc: Global, words: &[String]) -> Result<Options, WordsFault>
     ensures ok { IfOk result (λ o. options_in words.now ≡ Some o) }
     ensures usage { IsErrOf result WordsFault.Usage → options_in words.now ≡ None }
+    ensures limits { IfOk result IsWithinLimits }
 {
     let matches = matches_in(alloc, words)?;
     options(&matches).ok_or(WordsFault::Usage)

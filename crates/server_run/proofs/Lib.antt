@@ -1,3 +1,6 @@
+mod Counts
 mod HistoryLaws
+mod JobLaws
 mod Orders
 mod Refusals
+mod TurnedLaws

@@ -1,26 +1,72 @@
 -- The order of a log, and the log itself.
-use Rattle.std.proofs.Common.{◌≡◌, ℕ, List, ◌++◌, length, take, drop, refl, sym, ap, ◌∙◌, subst}
-use Rattle.std.proofs.Math.Seq.{take-append_seam, drop-append_seam}
+use Rattle.std.proofs.Common.{◌≡◌, ℕ, suc, List, [], ◌∷◌, ◌++◌, length, get_or, Option, Some, None, ◌<◌, take, drop, refl, sym, ap, ◌∙◌, subst, arith, sum_by, length-append, ◌+◌, ◌≤◌}
+use Rattle.std.proofs.lemmas.List.Sums.{sum_by-cons}
+use Rattle.std.proofs.Math.Seq.{take-append_seam, drop-append_seam, drop-cons}
+use Rattle.std.specs.Prelude.{IsPermutation, IsSorted}
 use Rattle.std.proofs.lemmas.List.Sorted.{length_permutation}
 use Rattle.query_rules.specs.declared.query.Reply.{Reply}
+use Rattle.query_rules.specs.declared.query.Reply.TheVariants.{Placed, Busy, Late, Job}
 use Rattle.query_rules.specs.declared.query.Spot.{Spot}
 use Rattle.query_rules.specs.declared.query.Section.TheVariants as section
+use Rattle.query_rules.specs.declared.query.Section.{Section}
 use Rattle.query_rules.specs.Grammar.{Asked}
-use Rattle.query_rules.specs.Log.{spots_of, placed_count, IsOrderOf, IsOrder, log_text}
+use Rattle.query_rules.specs.Log.{spot_cmp, key_in, spots_with, spots_of, spots_from, placed_count, IsOrderOf, IsOrder, log_text}
 use Rattle.query_text.proofs.Spots.{maps_count}
-use Rattle.server_run.specs.Alone.{ToldAlone}
+use Rattle.query_rules.specs.History.{IsHistory}
 use Rattle.server_run.specs.Serve.{IsLogOf}
-use Rattle.server_run.proofs.HistoryLaws.{history_alone}
 
-pub order_made : (told : List (List Reply)) (maps jobs order : List Spot) → IsOrderOf section.Maps told maps → IsOrderOf section.Jobs told jobs → order ≡ maps ++ jobs → IsOrder told order
-order_made told maps jobs order first later is =
-    let count : length maps ≡ placed_count told = length_permutation (spots_of section.Maps 0 told) maps first.each ∙ maps_count 0 told in
-    let front : take (placed_count told) order ≡ maps = ap (take (placed_count told)) is ∙ ap (λ n. take n (maps ++ jobs)) (sym count) ∙ take-append_seam maps jobs in
-    let back : drop (placed_count told) order ≡ jobs = ap (drop (placed_count told)) is ∙ ap (λ n. drop n (maps ++ jobs)) (sym count) ∙ drop-append_seam maps jobs in
+-- the spots of the map lines were sorted, then those of the job lines behind them
+pub order_made : (told : List (List Reply)) (maps all order : List Spot) (placed : ℕ) → IsOrderOf section.Maps told maps → all ≡ maps ++ spots_of section.Jobs 0 told → placed ≡ length maps
+    → take placed order ≡ take placed all → IsPermutation (drop placed all) (drop placed order) → IsSorted spot_cmp (drop placed order) → IsOrder told order
+order_made told maps all order placed first is at front each sorted =
+    let count : placed ≡ placed_count told = at ∙ length_permutation (spots_of section.Maps 0 told) maps first.each ∙ maps_count 0 told in
+    let before : take placed order ≡ maps = front ∙ ap (take placed) is ∙ ap (λ n. take n (maps ++ spots_of section.Jobs 0 told)) at ∙ take-append_seam maps (spots_of section.Jobs 0 told) in
+    let behind : drop placed all ≡ spots_of section.Jobs 0 told = ap (drop placed) is ∙ ap (λ n. drop n (maps ++ spots_of section.Jobs 0 told)) at ∙ drop-append_seam maps (spots_of section.Jobs 0 told) in
+    let jobs : IsOrderOf section.Jobs told (drop placed order) = record { each = subst (λ (l : List Spot). IsPermutation l (drop placed order)) behind each; sorted = sorted } in
     record {
-      maps = subst (λ (l : List Spot). IsOrderOf section.Maps told l) (sym front) first;
-      jobs = subst (λ (l : List Spot). IsOrderOf section.Jobs told l) (sym back) later;
+      maps = subst (λ n. IsOrderOf section.Maps told (take n order)) count (subst (λ (l : List Spot). IsOrderOf section.Maps told l) (sym before) first);
+      jobs = subst (λ n. IsOrderOf section.Jobs told (drop n order)) count jobs;
     }
 
-pub log_alone : (s : Asked) (rows : ℕ) (told : List (List Reply)) (order : List Spot) → ToldAlone rows s.callers told → IsOrder told order → IsLogOf s rows (log_text s rows told order)
-log_alone s rows told order alone in_order = record { told = told; order = order; history = history_alone rows s.callers told alone; in_order = in_order; text_is = refl }
+pub log_of : (s : Asked) (rows : ℕ) (told : List (List Reply)) (order : List Spot) → IsHistory rows s.callers told → IsOrder told order → IsLogOf s rows (log_text s rows told order)
+log_of s rows told order history in_order = record { told = told; order = order; history = history; in_order = in_order; text_is = refl }
+
+-- a reply has a spot in at most one section
+from_room : (caller index : ℕ) (replies : List Reply) → length (spots_from section.Maps caller index replies) + length (spots_from section.Jobs caller index replies) ≤ length replies
+from_room caller index [] = omega arith
+from_room caller index (Placed place said ∷ replies) = let rest = from_room caller (index + 1) replies in omega (arith, rest)
+from_room caller index (Busy ∷ replies) = let rest = from_room caller (index + 1) replies in omega (arith, rest)
+from_room caller index (Late now ∷ replies) = let rest = from_room caller (index + 1) replies in omega (arith, rest)
+from_room caller index (Job at result ∷ replies) = let rest = from_room caller (index + 1) replies in omega (arith, rest)
+
+-- there are no more spots than replies
+pub spots_room : (caller : ℕ) (told : List (List Reply)) → length (spots_of section.Maps caller told) + length (spots_of section.Jobs caller told) ≤ sum_by length told
+spots_room caller [] = omega arith
+spots_room caller (replies ∷ told) =
+    let here = from_room caller 0 replies in
+    let rest = spots_room (caller + 1) told in
+    let maps = length-append (spots_from section.Maps caller 0 replies) (spots_of section.Maps (caller + 1) told) in
+    let jobs = length-append (spots_from section.Jobs caller 0 replies) (spots_of section.Jobs (caller + 1) told) in
+    let all = sum_by-cons (length {A = Reply}) replies told in
+    omega (arith, here, rest, maps, jobs, all)
+
+-- the next spot has room where all have
+pub spot_fits : (section : Section) (caller index : ℕ) (rest : List Reply) (d : Reply) (key : ℕ) (items start all : List Spot) (cap : ℕ) → 1 ≤ length rest → key_in section (get_or rest 0 d) ≡ Some key → items ++ spots_from section caller index rest ≡ start ++ all → length start + length all ≤ cap → length items < cap
+spot_fits section caller index [] d key items start all cap some is same enough = absurd (omega (arith, some))
+spot_fits section caller index (reply ∷ rest) d key items start all cap some is same enough =
+    let later : List Spot = spots_from section caller (index + 1) rest in
+    let one : length (spots_with (key_in section reply) caller index later) ≡ length later + 1 = ap (λ o. length (spots_with o caller index later)) is ∙ omega arith in
+    let sum = ap length same in
+    let left = length-append items (spots_with (key_in section reply) caller index later) in
+    let right = length-append start all in
+    omega (arith, one, sum, left, right, enough)
+
+-- so have those of the next caller
+pub caller_fits : (section : Section) (told : List (List Reply)) (caller : ℕ) (items start all : List Spot) (cap : ℕ) → caller < length told → items ++ spots_of section caller (drop caller told) ≡ start ++ all → length start + length all ≤ cap → length items + length (spots_from section caller 0 (get_or told caller [])) ≤ cap
+caller_fits section told caller items start all cap there same enough =
+    let cut = ap (λ (l : List (List Reply)). length (spots_of section caller l)) (drop-cons told caller [] there) in
+    let parts = length-append (spots_from section caller 0 (get_or told caller [])) (spots_of section (caller + 1) (drop (suc caller) told)) in
+    let sum = ap length same in
+    let left = length-append items (spots_of section caller (drop caller told)) in
+    let right = length-append start all in
+    omega (arith, cut, parts, sum, left, right, enough)

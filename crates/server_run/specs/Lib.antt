@@ -1,3 +1,3 @@
 pub mod Alone
-pub mod Desks
+pub mod Rooms
 pub mod Serve

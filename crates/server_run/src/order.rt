@@ -1,41 +1,49 @@
 // The order of a log's lines.
-ghost use Rattle.std.specs.Prelude.{◌≡◌, ◌<◌, ◌≤◌, ◌++◌, ◌^◌, length, IfOk, OnOk, get_or};
-ghost use Rattle.query_rules.specs.Log.{IsOrder, IsOrderOf, spots_of, spots_from};
+ghost use Rattle.std.specs.Prelude.{◌≡◌, ◌+◌, ◌<◌, ◌≤◌, ◌++◌, ◌^◌, [], length, sum_by, get_or, take, drop, vec_capacity, IsPermutation, IsSorted};
+ghost use Rattle.query_rules.specs.Log.{IsOrder, spots_of, spots_from};
 ghost use Rattle.query_rules.specs.Log as log;
 
-use ql_base::NoMemory;
+use crate::reserved::push_reserved;
 use query_text::{Outcome, Reply, Section, Spot};
-use std::alloc::Global;
 
 /// The spots of all replies in the order of the log: those of the map lines, then those of the job
-/// lines. It takes the time of two sorts.
-pub fn order_of(alloc: Global, outcome: &Outcome) -> Result<Vec<Spot>, NoMemory>
-    ensures { IfOk result (λ order. IsOrder outcome.now order.items) }
+/// lines. They are put into `room`, an empty list that was reserved for all replies, so the call
+/// takes no memory. It takes the time of two sorts.
+pub fn order_of(room: Vec<Spot>, outcome: &Outcome) -> Vec<Spot>
+    requires empty { room.items ≡ [] }
+    requires room { sum_by length outcome.now ≤ vec_capacity room }
+    ensures { IsOrder outcome.now result.items }
 {
-    let mut order = sorted_spots(alloc, outcome, Section::Maps)?;
-    let jobs = sorted_spots(alloc, outcome, Section::Jobs)?;
-    order.extend_from_slice(&jobs)?;
-    Ok(order)
+    let mut order = room;
+    add_section(&mut order, Section::Maps, outcome);
+    let placed = order.len();
+    order.sort_unstable();
+    add_section(&mut order, Section::Jobs, outcome);
+    sort_from(&mut order, placed);
+    order
 }
 
-// The spots of a section in their order.
-fn sorted_spots(alloc: Global, outcome: &Outcome, section: Section) -> Result<Vec<Spot>, NoMemory>
-    ensures { IfOk result (λ order. IsOrderOf section outcome.now order.items) }
+// Sorts what stands from there on.
+fn sort_from(spots: &mut [Spot], from: usize)
+    requires { from ≤ length spots.old }
+    ensures front { take from spots.new ≡ take from spots.old }
+    ensures each { IsPermutation (drop from spots.old) (drop from spots.new) }
+    ensures sorted { IsSorted log.spot_cmp (drop from spots.new) }
+    ensures len { length spots.new ≡ length spots.old }
 {
-    let mut spots = spots_in(alloc, outcome, section)?;
-    spots.sort_unstable();
-    Ok(spots)
+    let (_, rest) = spots.split_at_mut(from);
+    rest.sort_unstable();
 }
 
-// The spots of a section, by caller and index.
-fn spots_in(alloc: Global, outcome: &Outcome, section: Section) -> Result<Vec<Spot>, NoMemory>
-    ensures { IfOk result (λ spots. spots.items ≡ spots_of section 0 outcome.now) }
+// Adds the spots of a section, by caller and index.
+fn add_section(spots: &mut Vec<Spot>, section: Section, outcome: &Outcome)
+    requires room { length spots.old.items + length (spots_of section 0 outcome.now) ≤ vec_capacity spots.old }
+    ensures spots { spots.new.items ≡ spots.old.items ++ spots_of section 0 outcome.now }
+    ensures room { vec_capacity spots.old ≤ vec_capacity spots.new }
 {
-    let mut spots = Vec::new(alloc);
     for caller in 0..outcome.count() {
-        add_spots(&mut spots, section, caller, outcome.replies(caller))?;
+        add_spots(spots, section, caller, outcome.replies(caller));
     }
-    Ok(spots)
 }
 
 // What orders a reply in a section, where it stands there.
@@ -50,22 +58,18 @@ fn key_in(section: Section, reply: Reply) -> Option<u64>
 }
 
 // Adds the spots of one caller's replies.
-fn add_spots(
-    spots: &mut Vec<Spot>,
-    section: Section,
-    caller: u64,
-    replies: &[Reply],
-) -> Result<(), NoMemory>
-    ensures { OnOk result (spots.new.items ≡ spots.old.items ++ spots_from section caller 0 replies.now) }
+fn add_spots(spots: &mut Vec<Spot>, section: Section, caller: u64, replies: &[Reply])
+    requires room { length spots.old.items + length (spots_from section caller 0 replies.now) ≤ vec_capacity spots.old }
+    ensures spots { spots.new.items ≡ spots.old.items ++ spots_from section caller 0 replies.now }
+    ensures room { vec_capacity spots.old ≤ vec_capacity spots.new }
 {
     let mut index = 0;
     let mut rest = replies;
     while let [reply, after @ ..] = rest {
         if let Some(key) = key_in(section, *reply) {
-            spots.push(Spot { key, caller, index })?;
+            push_reserved(spots, Spot { key, caller, index });
         }
         index += 1;
         rest = after;
     }
-    Ok(())
 }

@@ -6,11 +6,10 @@ ghost use Rattle.ql_base.specs.Causes.{Rose};
 ghost use Rattle.server_run.specs.Serve.{limit, Reads, IsLogOf, WritesOneHistory, WritesFront, IsRefusalOf, WritesRefusal, WritesRefusalFront, Completes, Refuses};
 ghost use Rattle.query_text.specs.Refusals.{refusal_text};
 ghost use Rattle.query_text.specs.declared.refusal.Refusal.{Refusal};
-ghost use Rattle.command_line.specs.Form.{options_in};
+ghost use Rattle.command_line.specs.Form.{IsWithinLimits, options_in};
 
-use crate::order::order_of;
 use crate::run::run_script;
-use command_line::{WordsFault, check_words};
+use command_line::{Options, WordsFault, check_words};
 use ql_base::{Clocks, Gate, ReadFault, Sink, Source, read_to_end};
 use query_text::{ParseFault, Refusal, Script, parse_script, write_log, write_refusal};
 use std::alloc::Global;
@@ -70,25 +69,25 @@ fn read_script<S: Source>(alloc: Global, source: &mut S) -> Result<Script, Scrip
 }
 
 // Asks the queries of a script, and writes the log.
-fn answer<K: Sink, G: Gate>(
+fn answer<R: Wait, K: Sink, T: Clocks, G: Gate>(
+    rt: &R,
     alloc: Global,
     script: &Script,
-    rows: u64,
+    options: &Options,
     sink: &mut K,
+    clocks: &T,
     gate: &G,
 ) -> Result<(), LogFault>
-    ensures written { OnOk result ((text : List ℕ) × IsLogOf script.now rows text × Appends (K.written sink.old) (K.written sink.new) text) }
-    ensures cut { IsErrOf result LogFault.Write → (text : List ℕ) × IsLogOf script.now rows text × AppendsFront (K.written sink.old) (K.written sink.new) text }
+    requires limits { IsWithinLimits options.now }
+    ensures written { OnOk result ((text : List ℕ) × IsLogOf script.now options.now.rows text × Appends (K.written sink.old) (K.written sink.new) text) }
+    ensures cut { IsErrOf result LogFault.Write → (text : List ℕ) × IsLogOf script.now options.now.rows text × AppendsFront (K.written sink.old) (K.written sink.new) text }
     ensures fault { IsErrOf result LogFault.Write → Rose (K.faults sink.old) (K.faults sink.new) }
     ensures memory { IsErrOf result LogFault.NoMemory → sink.new ≡ sink.old }
 {
-    let Ok(outcome) = run_script(alloc, script, rows, gate) else {
+    let Ok(ran) = run_script(rt, alloc, script, options, clocks, gate) else {
         return Err(LogFault::NoMemory);
     };
-    let Ok(order) = order_of(alloc, &outcome) else {
-        return Err(LogFault::NoMemory);
-    };
-    match write_log(sink, script, rows, &outcome, &order) {
+    match write_log(sink, script, options.rows, &ran.outcome, &ran.order) {
         Ok(()) => Ok(()),
         Err(_) => Err(LogFault::Write),
     }
@@ -110,16 +109,17 @@ fn refuse<K: Sink>(sink: &mut K, refusal: Refusal) -> u8
 /// Does all that the program does, and answers its status: 0 done, 2 usage, 3 refused, 4 a read
 /// fault, 5 a write fault, 6 no memory.
 ///
-/// The steps come in this order: the words, the reading, its length, the grammar, the queries, the
-/// writing. Want of memory may end it at each step but the last. Nobody else asks yet, so the
-/// runtime and the clocks aren't used.
+/// The steps come in this order: the words, the reading, its length, the grammar, the memory of all
+/// that the queries need, the queries, the writing. Want of memory may end it at each step before
+/// the first query. The clocks are asked where a query with a deadline is refused, and the runtime
+/// where one waits for a lock. The call holds what it promises if it returns.
 pub fn serve_main<R: Threads + Wait + Sync, S: Source, K: Sink, T: Clocks, G: Gate>(
-    _rt: &R,
+    rt: &R,
     alloc: Global,
     words: &[String],
     source: &mut S,
     sink: &mut K,
-    _clocks: &T,
+    clocks: &T,
     gate: &G,
 ) -> u8
     // Whatever the schedule, status 0 has written exactly the printed form of one history.
@@ -158,7 +158,7 @@ pub fn serve_main<R: Threads + Wait + Sync, S: Source, K: Sink, T: Clocks, G: Ga
         Err(ScriptFault::Refused(refusal)) => return refuse(sink, refusal),
         Err(ScriptFault::NoMemory) => return NO_MEMORY,
     };
-    match answer(alloc, &script, options.rows, sink, gate) {
+    match answer(rt, alloc, &script, &options, sink, clocks, gate) {
         Ok(()) => DONE,
         Err(LogFault::Write) => WRITE_FAULT,
         Err(LogFault::NoMemory) => NO_MEMORY,

@@ -1,4 +1,4 @@
-use Rattle.std.proofs.Common.{◌≡◌, ◌≤◌, ◌+◌, ◌++◌, length}
+use Rattle.std.proofs.Common.{◌≡◌, ◌≤◌, ◌+◌, ◌++◌, length, vec_capacity}
 use Rattle.query_rules.specs.Log.{spots_from}
 use Rattle.server_run.proofs.order.add_spots.Given as goal
 
@@ -7,6 +7,7 @@ abbrev pub invariant-loop-rest : goal.invariant-loop-rest
 invariant-loop-rest l =
     (l.spots.items ++ spots_from l.section l.caller l.index l.rest ≡ l.fn.spots.items ++ spots_from l.section l.caller 0 l.replies)
     × (l.index + length l.rest ≤ length l.replies)
+    × (vec_capacity l.fn.spots ≤ vec_capacity l.spots)
 
 abbrev pub decreases-loop-rest : goal.decreases-loop-rest
 decreases-loop-rest l = length l.rest

@@ -1,30 +1,35 @@
-use Rattle.std.proofs.Common.{arith, ap, ◌∙◌, List, length}
+use Rattle.std.proofs.Common.{arith, ap, ◌∙◌, ◌++◌, [], ◌∷◌, List, length, length-append}
 use Rattle.std.proofs.lemmas.List.{take_rest, length-drop}
+use Rattle.hall.specs.Passes.{view}
 use Rattle.ql_base.proofs.Pieces.{all_next}
 use Rattle.query_rules.specs.declared.query.Reply.{Reply}
-use Rattle.query_log.specs.Plain.{row_count}
-use Rattle.server_run.specs.Desks.{FromDesk}
-use Rattle.server_run.proofs.HistoryLaws.{ask_next, ask_end, jobs_left}
+use Rattle.map_cargo.specs.declared.entry.Part.{Part}
+use Rattle.server_run.specs.Alone.{IsAlone}
+use Rattle.server_run.proofs.Counts.{quota_left, jobs_left}
+use Rattle.server_run.proofs.HistoryLaws.{ask_next, ask_end}
 use Rattle.server_run.proofs.run.ask_all.Goals as goal
 
 pub loop-rest-preserved : goal.loop-rest-preserved
 loop-rest-preserved g c =
-    let F : List Reply → Type 0 = λ l. FromDesk c.args.desk.now c.args.queries.now l in
-    let told = c.in_ok-reply.ensures in
+    let F : List Reply → Part → Type 0 = λ l w. IsAlone (view c.args.pass.now).part c.args.ledger.now c.args.queries.now l w in
+    let said = c.ask-reply.ensures in
     let some = c.in-len1-up.len_at_least in
+    let so = c.loop-rest.invariant in
     let rest = c.loop-rest.rest.now in
-    let len = ap length (take_rest rest 1) ∙ length-drop 1 rest in (
-      ask_next c.loop-rest.desk c.answer.new.self (row_count c.args.desk.now.maps) rest _ c.loop-rest.replies.items c.push.new.self.items c.in_ok-reply.reply F
-          some told.ok c.loop-rest.invariant.2 (told.rows ∙ c.loop-rest.invariant.2) c.loop-rest.invariant.3 c.in_ok-push.ensures.items c.loop-rest.invariant.0,
-      rw told.cells (all_next _ rest c.loop-rest.invariant.1),
-      told.rows ∙ c.loop-rest.invariant.2,
-      told.accounts ∙ c.loop-rest.invariant.3,
-      jobs_left rest _ c.loop-rest.desk.ledger.room c.answer.new.self.ledger.room some c.loop-rest.invariant.4 told.room,
-      omega (arith, c.loop-rest.invariant.5, told.writes),
-      omega (arith, c.loop-rest.invariant.6, some, len),
+    let len = ap length (take_rest rest 1) ∙ length-drop 1 rest in
+    let more = ap length c.push_reserved.ensures.items ∙ length-append c.loop-rest.replies.items (c.ask-reply.result ∷ []) in (
+      ask_next (view c.loop-rest.pass).number c.loop-rest.index rest _ c.loop-rest.replies.items c.push_reserved.new.list.items c.ask-reply.result (view c.loop-rest.pass).part (view c.ask-reply.new.pass).part c.loop-rest.ledger c.ask-reply.new.ledger F
+          some said.told said.ledger said.kind (said.alone c.requires.hall.seats) c.push_reserved.ensures.items so.0,
+      (said.pass, said.idle),
+      record { number = said.same.number ∙ so.2.number; span = said.same.span ∙ so.2.span; taken = said.same.taken ∙ so.2.taken },
+      all_next _ rest so.3,
+      quota_left rest _ c.ask-reply.result _ _ some so.4 said.kind said.quota,
+      jobs_left (view c.loop-rest.pass).number c.loop-rest.index rest _ c.ask-reply.result c.loop-rest.ledger c.ask-reply.new.ledger some so.5 said.ledger,
+      omega (arith, so.6, some, len, more, c.push_reserved.ensures.room),
+      omega (arith, so.7, some, len),
     )
 
-pub returns : goal.returns
-returns g c =
-    let F : List Reply → Type 0 = λ l. FromDesk c.args.desk.now c.args.queries.now l in
-    ask_end c.loop-rest.desk c.loop-rest.rest.now c.loop-rest.replies.items F c.in_default.len_below c.loop-rest.invariant.0
+pub returns-clause-told : goal.returns-clause-told
+returns-clause-told g c =
+    let F : List Reply → Part → Type 0 = λ l w. IsAlone (view c.args.pass.now).part c.args.ledger.now c.args.queries.now l w in
+    ask_end (view c.loop-rest.pass).part c.loop-rest.ledger c.loop-rest.rest.now c.loop-rest.replies.items F c.in_default.len_below c.loop-rest.invariant.0

@@ -1,15 +1,37 @@
-use Rattle.std.proofs.Common.{arith, ap, ◌∙◌, ◌<◌, ◌++◌, [], ◌∷◌, List, length, map, get_or, refl}
+use Rattle.std.proofs.Common.{◌≡◌, ℕ, ap, sym, subst, ◌∙◌, ◌++◌, [], ◌∷◌, ◌<◌, List, arith, length, map, get_or, sum_by}
+use Rattle.std.proofs.lemmas.List.Sums.{sum_by-cons}
+use Rattle.std.proofs.lemmas.Slice.Zip.{AllZip-long}
+use Rattle.hall.specs.Passes.{view}
 use Rattle.query_rules.specs.declared.query.Query.{Query}
-use Rattle.server_run.specs.declared.desk.Desk.{Desk}
-use Rattle.server_run.proofs.HistoryLaws.{told_one, first_desk}
+use Rattle.query_rules.specs.declared.query.Reply.{Reply}
+use Rattle.query_rules.specs.Maps.{no_entries}
+use Rattle.query_rules.specs.History.{IsKindFor, IsLegal}
+use Rattle.map_cargo.specs.declared.entry.Part.{Part}
+use Rattle.map_cargo.specs.Entries.{as_reply}
+use Rattle.server_run.proofs.HistoryLaws.{history_alone, history_one}
 use Rattle.server_run.proofs.run.run_script.Goals as goal
 
-pub returns : goal.returns
-returns g c =
+pub order_of-order-requires-2-clause-room : goal.order_of-order-requires-2-clause-room
+order_of-order-requires-2-clause-room g c =
+    let replies = c.ask_all-replies.result.items in
+    let told : c.of-outcome-2.result ≡ replies ∷ [] = c.of-outcome-2.ensures ∙ ap (map (λ v. v.items)) (c.push_reserved.ensures.items ∙ ap (λ l. l ++ c.ask_all-replies.result ∷ []) c.in_ok-lists.ensures.items) in
+    let sum = ap (sum_by (length {A = Reply})) told ∙ sum_by-cons (length {A = Reply}) replies [] in
+    let long = AllZip-long IsKindFor c.queries-queries.result.now replies c.ask_all-replies.ensures.told.kinds in
+    omega (arith, sum, long, c.in_ok-spots.ensures.capacity)
+
+pub returns-clause-history : goal.returns-clause-history
+returns-clause-history g c =
+    let rows = c.args.options.now.rows in
+    let callers = c.args.script.now.callers in
+    let queries = c.queries-queries.result.now in
+    let replies = c.ask_all-replies.result.items in
+    let first = c.in_ok-hall.ensures.first in
     let len = ap (λ (l : List (List Query)). length l) c.callers-callers.ensures.value in
-    let some : 0 < length c.args.script.now.callers = omega (arith, len, c.count.ensures, c.if-count-eq0.false) in
-    let desk : Desk = record { maps = c.in_ok-maps.maps; ledger = c.in_ok-ledger.ledger; writes = 0 } in
-    told_one c.args.rows c.args.script.now.callers c.of-2.result c.queries-queries.result.now c.in_ok-replies.replies.items
-    c.callers-callers.ensures.script.one some (c.queries-queries.ensures ∙ ap (λ (l : List (List Query)). get_or l 0 []) c.callers-callers.ensures.value)
-    (first_desk desk c.args.rows c.queries-queries.result.now c.in_ok-replies.replies.items c.count_jobs.result c.in_ok-maps.ensures.rows c.in_ok-maps.ensures.maps refl c.in_ok-ledger.ensures c.in_ok-replies.ensures)
-    (c.of-2.ensures ∙ ap (map (λ v. v.items)) (c.in_ok-push.ensures.items ∙ ap (λ l. l ++ c.in_ok-replies.replies ∷ []) c.new-lists.ensures.items))
+    let some : 0 < length callers = omega (arith, len, c.count.ensures, c.if-count-eq0.false) in
+    let told : c.of-outcome-2.result ≡ replies ∷ [] = c.of-outcome-2.ensures ∙ ap (map (λ v. v.items)) (c.push_reserved.ensures.items ∙ ap (λ l. l ++ c.ask_all-replies.result ∷ []) c.in_ok-lists.ensures.items) in
+    let legal = c.close.ensures.legal (c.ask_all-replies.ensures.width ∙ first.alone ∙ sym c.in_ok-hall.ensures.hall.seats) in
+    let whole : IsLegal rows no_entries (map as_reply (view c.ask_all-replies.new.pass).part.told) = subst (λ n. IsLegal n no_entries (map as_reply (view c.ask_all-replies.new.pass).part.told)) c.in_ok-hall.ensures.rows legal in
+    history_one rows callers c.of-outcome-2.result queries replies c.callers-callers.ensures.script.one some
+    (c.queries-queries.ensures ∙ ap (λ (l : List (List Query)). get_or l 0 []) c.callers-callers.ensures.value) told
+    (history_alone rows c.count_jobs.result queries replies (view c.in_ok-hall.pass).part (view c.ask_all-replies.new.pass).part c.in_ok-ledger.ledger
+          (ap (λ (p : Part). p.seen) first.part) (ap (λ (p : Part). p.told) first.part) c.in_ok-ledger.ensures c.ask_all-replies.ensures.told whole)

@@ -1,7 +1,0 @@
-use Rattle.std.proofs.Common.{◌≡◌, ◌++◌, drop}
-use Rattle.query_rules.specs.Log.{spots_of}
-use Rattle.server_run.proofs.order.spots_in.Given as goal
-
--- the spots of the callers so far, and of the others
-abbrev pub invariant-loop-caller : goal.invariant-loop-caller
-invariant-loop-caller l = l.spots.items ++ spots_of l.section l.caller (drop l.caller l.outcome) ≡ spots_of l.section 0 l.outcome
