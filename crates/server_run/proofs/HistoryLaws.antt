@@ -14,14 +14,44 @@ use Rattle.query_rules.specs.History.{place_of, Precedes, InOrder, IsKindFor, An
 use Rattle.query_rules.proofs.Jobs.{run_all_push}
 use Rattle.query_log.specs.Ledgers.{LedgerView, made_by, accounts_in}
 use Rattle.query_log.specs.declared.job.LedgerEntry.{LedgerEntry}
+use Rattle.map_cargo.specs.declared.entry.Entry.{Entry}
 use Rattle.map_cargo.specs.declared.entry.Part.{Part}
 use Rattle.map_cargo.specs.declared.entry.Told.{Told}
 use Rattle.map_cargo.specs.declared.entry.Told.TheVariants.{Wrote, Read}
 use Rattle.map_cargo.specs.Entries.{as_reply}
 use Rattle.query_cells.specs.Asked.{AddsReply, AddsJob, entry_for, is_granted}
-use Rattle.server_run.specs.Alone.{seen_after, PlacedAlone, told_onto, RanAlone, IsAlone}
+use Rattle.server_run.specs.Alone.{seen_after, told_as, ToldAlone, RanAlone, IsAlone}
 use Rattle.server_run.proofs.JobLaws.{IsJobFrom, jobs_from, job_precedes, ledger_alone}
-use Rattle.server_run.proofs.TurnedLaws.{legal_turned}
+use Rattle.server_run.proofs.TurnedLaws.{told_onto, legal_turned}
+
+-- each placed reply stands behind all writes that were seen, and its own is seen then; the others are jobs
+abbrev PlacedAlone : ℕ → List Query → List Reply → Type 0
+PlacedAlone seen [] [] = Unit {0}
+PlacedAlone seen [] (reply ∷ replies) = ⊥
+PlacedAlone seen (q ∷ queries) [] = ⊥
+PlacedAlone seen (q ∷ queries) (Placed place said ∷ replies) = (n : ℕ) × (place ≡ place_of n said) × (seen ≤ n) × PlacedAlone (seen_after n said) queries replies
+PlacedAlone seen (q ∷ queries) (Busy ∷ replies) = ⊥
+PlacedAlone seen (q ∷ queries) (Late now ∷ replies) = ⊥
+PlacedAlone seen (q ∷ queries) (Job at result ∷ replies) = PlacedAlone seen queries replies
+
+as_told : (q : Query) (n : ℕ) (e : Entry) (b : Bool) → as_reply (cond b (Wrote n e) (Read n e)) ≡ (e.query, Placed (place_of n e.said) e.said)
+as_told q n e true = refl
+as_told q n e false = refl
+
+-- the places, and the replies as a history has them
+told_parts : (number index seen : ℕ) (told : List Told) (qs : List Query) (rs : List Reply) (later : List Told) → ToldAlone number index seen told qs rs later
+    → PlacedAlone seen qs rs × (map as_reply later ≡ told_onto (map as_reply told) qs rs)
+told_parts number index seen told [] [] later h = (tt, ap (map as_reply) h)
+told_parts number index seen told [] (r ∷ rs) later h = absurd h
+told_parts number index seen told (q ∷ qs) [] later h = absurd h
+told_parts number index seen told (q ∷ qs) (Placed place said ∷ rs) later h =
+    let e : Entry = entry_for number index q said in
+    let rest = told_parts number (index + 1) (seen_after h.0 said) (told_as h.0 e ∷ told) qs rs later h.3 in
+    let head : as_reply (told_as h.0 e) ≡ (q, Placed place said) = as_told q h.0 e (is_write said) ∙ ap (λ x. (q, Placed x said)) (sym h.1) in
+    ((h.0, h.1, h.2, rest.0), rest.1 ∙ ap (λ (x : Query × Reply). told_onto (x ∷ map as_reply told) qs rs) head)
+told_parts number index seen told (q ∷ qs) (Busy ∷ rs) later h = absurd h
+told_parts number index seen told (q ∷ qs) (Late now ∷ rs) later h = absurd h
+told_parts number index seen told (q ∷ qs) (Job at result ∷ rs) later h = told_parts number (index + 1) seen told qs rs later h
 
 -- no place is below this
 abbrev IsAtLeast : ℕ → Reply → Type 0
@@ -88,12 +118,13 @@ order_alone rows seen accounts p (q ∷ queries) (Job at result ∷ replies) h r
     )
 
 -- a closed hall's replies and the ledger's are one history of the one caller
-pub history_alone : (rows room : ℕ) (queries : List Query) (replies : List Reply) (first r : Part) (ledger : LedgerView) → first.seen ≡ 0 → first.told ≡ [] → ledger ≡ record { rows = rows; room = room; entries = [] }
-    → IsAlone first ledger queries replies r → IsLegal rows no_entries (map as_reply r.told) → IsHistory rows (queries ∷ []) (replies ∷ [])
-history_alone rows room queries replies first r ledger seen told made h legal =
-    let placed : PlacedAlone 0 queries replies = subst (λ n. PlacedAlone n queries replies) seen h.placed in
+pub history_alone : (rows room number : ℕ) (queries : List Query) (replies : List Reply) (first r : Part) (ledger : LedgerView) → first.seen ≡ 0 → first.told ≡ [] → ledger ≡ record { rows = rows; room = room; entries = [] }
+    → IsAlone number 0 first ledger queries replies r → IsLegal rows no_entries (map as_reply r.told) → IsHistory rows (queries ∷ []) (replies ∷ [])
+history_alone rows room number queries replies first r ledger seen told made h legal =
+    let parts = told_parts number 0 first.seen first.told queries replies r.told h.told in
+    let placed : PlacedAlone 0 queries replies = subst (λ n. PlacedAlone n queries replies) seen parts.0 in
     let ran : RanAlone rows no_accounts 0 queries replies = subst (λ (l : LedgerView). RanAlone l.rows (accounts_in l) (length l.entries) queries replies) made h.ran in
-    let whole : map as_reply r.told ≡ told_onto [] queries replies = h.told ∙ ap (λ (l : List Told). told_onto (map as_reply l) queries replies) told in
+    let whole : map as_reply r.told ≡ told_onto [] queries replies = parts.1 ∙ ap (λ (l : List Told). told_onto (map as_reply l) queries replies) told in
     let maps : IsLegal rows no_entries (zip queries replies) = legal_turned rows queries replies (subst (λ (l : List (Query × Reply)). IsLegal rows no_entries l) whole legal) in
     record {
       once = (record { each = h.kinds; order = order_alone rows 0 no_accounts 0 queries replies placed ran }, tt);
@@ -128,11 +159,10 @@ pub kinds_all : (rows : ℕ) (callers : List (List Query)) (told : List (List Re
 kinds_all rows callers told h = kinds_each callers told h.once
 
 -- a placed reply is told in front of the others
-placed_told : (number index : ℕ) (q : Query) (place n : ℕ) (said : Said) (p r : Part) (b : Bool) → place ≡ place_of n said
-    → MatchBool b ((r.seen ≡ n + 1) × (r.told ≡ Wrote n (entry_for number index q said) ∷ p.told)) ((r.seen ≡ n) × (r.told ≡ Read n (entry_for number index q said) ∷ p.told))
-    → (r.seen ≡ cond b (n + 1) n) × (map as_reply r.told ≡ (q, Placed place said) ∷ map as_reply p.told)
-placed_told number index q place n said p r true at h = (h.0, ap (map as_reply) h.1 ∙ ap (λ x. (q, Placed x said) ∷ map as_reply p.told) (sym at))
-placed_told number index q place n said p r false at h = (h.0, ap (map as_reply) h.1 ∙ ap (λ x. (q, Placed x said) ∷ map as_reply p.told) (sym at))
+placed_told : (n : ℕ) (e : Entry) (p r : Part) (b : Bool) → MatchBool b ((r.seen ≡ n + 1) × (r.told ≡ Wrote n e ∷ p.told)) ((r.seen ≡ n) × (r.told ≡ Read n e ∷ p.told))
+    → (r.seen ≡ cond b (n + 1) n) × (r.told ≡ cond b (Wrote n e) (Read n e) ∷ p.told)
+placed_told n e p r true h = h
+placed_told n e p r false h = h
 
 -- one entry more in the ledger is one act more on its accounts
 accounts_push : (rows : ℕ) (entries : List LedgerEntry) (e : LedgerEntry) → made_by rows (entries ++ e ∷ []) ≡ accounts_of rows (made_by rows entries) e.act
@@ -142,13 +172,14 @@ accounts_push rows entries e =
 
 -- what one reply leaves, and what is told from there on, is told from before it on
 alone_next : (number index : ℕ) (q : Query) (reply : Reply) (p r : Part) (old new : LedgerView) → AddsReply number index q reply p r → AddsJob number index q reply old new → IsKindFor q reply → is_granted reply ≡ true
-    → (qs : List Query) (rs : List Reply) (w : Part) → IsAlone r new qs rs w → IsAlone p old (q ∷ qs) (reply ∷ rs) w
+    → (qs : List Query) (rs : List Reply) (w : Part) → IsAlone number (index + 1) r new qs rs w → IsAlone number index p old (q ∷ qs) (reply ∷ rs) w
 alone_next number index q (Placed place said) p r old new h job kind granted qs rs w next =
-    let t = placed_told number index q place h.0 said p r (is_write said) h.1 h.3 in
+    let e : Entry = entry_for number index q said in
+    let t = placed_told h.0 e p r (is_write said) h.3 in
+    let here : ToldAlone number (index + 1) (seen_after h.0 said) r.told qs rs w.told = subst (λ s. ToldAlone number (index + 1) s r.told qs rs w.told) t.0 next.told in
     record {
       kinds = (kind, next.kinds);
-      placed = (h.0, h.1, h.2, subst (λ s. PlacedAlone s qs rs) t.0 next.placed);
-      told = next.told ∙ ap (λ (l : List (Query × Reply)). told_onto l qs rs) t.1;
+      told = (h.0, h.1, h.2, subst (λ (l : List Told). ToldAlone number (index + 1) (seen_after h.0 said) l qs rs w.told) t.1 here);
       ran = subst (λ (l : LedgerView). RanAlone l.rows (accounts_in l) (length l.entries) qs rs) job next.ran;
     }
 alone_next number index q Busy p r old new h job kind granted qs rs w next = absurd (let bad : false ≡ true = granted in cc)
@@ -159,26 +190,26 @@ alone_next number index q (Job at result) p r old new h job kind granted qs rs w
     let R : Accounts → ℕ → Type 0 = λ a n. RanAlone old.rows a n qs rs in
     let r0 : R (made_by old.rows (old.entries ++ e ∷ [])) (length (old.entries ++ e ∷ [])) = subst (λ (l : LedgerView). RanAlone l.rows (accounts_in l) (length l.entries) qs rs) job.4 next.ran in
     let r1 : R (accounts_of old.rows (accounts_in old) act) (length (old.entries ++ e ∷ [])) = subst (λ (a : Accounts). R a (length (old.entries ++ e ∷ []))) (accounts_push old.rows old.entries e) r0 in
+    let here : ToldAlone number (index + 1) p.seen r.told qs rs w.told = subst (λ s. ToldAlone number (index + 1) s r.told qs rs w.told) h.1 next.told in
     let len : length (old.entries ++ e ∷ []) ≡ length old.entries + 1 = length-append old.entries (e ∷ []) in
     record {
       kinds = (kind, next.kinds);
-      placed = subst (λ s. PlacedAlone s qs rs) h.1 next.placed;
-      told = next.told ∙ ap (λ (l : List Told). told_onto (map as_reply l) qs rs) h.0;
+      told = subst (λ (l : List Told). ToldAlone number (index + 1) p.seen l qs rs w.told) h.0 here;
       ran = (act, job.1, job.2, job.3, subst (λ n. R (accounts_of old.rows (accounts_in old) act) n) len r1);
     }
 
 -- one reply more: whatever was right behind the replies so far still is
-pub ask_next : (number index : ℕ) (rest : List Query) (d : Query) (done done' : List Reply) (reply : Reply) (p r : Part) (old new : LedgerView) (F : List Reply → Part → Type 0) → 1 ≤ length rest
-    → AddsReply number index (get_or rest 0 d) reply p r → AddsJob number index (get_or rest 0 d) reply old new → IsKindFor (get_or rest 0 d) reply → is_granted reply ≡ true → done' ≡ done ++ reply ∷ []
-    → ((more : List Reply) (w : Part) → IsAlone p old rest more w → F (done ++ more) w)
-    → (more : List Reply) (w : Part) → IsAlone r new (take (length rest - 1) (drop 1 rest)) more w → F (done' ++ more) w
-ask_next number index [] d done done' reply p r old new F some h job kind granted hd inv more w next = absurd (omega (arith, some))
-ask_next number index (q ∷ qs) d done done' reply p r old new F some h job kind granted hd inv more w next =
-    let here : IsAlone r new qs more w = subst (λ (l : List Query). IsAlone r new l more w) (take_rest (q ∷ qs) 1) next in
+pub ask_next : (number mine index : ℕ) (rest : List Query) (d : Query) (done done' : List Reply) (reply : Reply) (p r : Part) (old new : LedgerView) (F : List Reply → Part → Type 0) → 1 ≤ length rest → mine ≡ number
+    → AddsReply mine index (get_or rest 0 d) reply p r → AddsJob mine index (get_or rest 0 d) reply old new → IsKindFor (get_or rest 0 d) reply → is_granted reply ≡ true → done' ≡ done ++ reply ∷ []
+    → ((more : List Reply) (w : Part) → IsAlone number index p old rest more w → F (done ++ more) w)
+    → (more : List Reply) (w : Part) → IsAlone number (index + 1) r new (take (length rest - 1) (drop 1 rest)) more w → F (done' ++ more) w
+ask_next number mine index [] d done done' reply p r old new F some is h job kind granted hd inv more w next = absurd (omega (arith, some))
+ask_next number mine index (q ∷ qs) d done done' reply p r old new F some is h job kind granted hd inv more w next =
+    let here : IsAlone number (index + 1) r new qs more w = subst (λ (l : List Query). IsAlone number (index + 1) r new l more w) (take_rest (q ∷ qs) 1) next in
     let same : done' ++ more ≡ done ++ (reply ∷ more) = ap (λ l. l ++ more) hd ∙ append_assoc done (reply ∷ []) more in
-    subst (λ (l : List Reply). F l w) (sym same) (inv (reply ∷ more) w (alone_next number index q reply p r old new h job kind granted qs more w here))
+    subst (λ (l : List Reply). F l w) (sym same) (inv (reply ∷ more) w (alone_next number index q reply p r old new (subst (λ n. AddsReply n index q reply p r) is h) (subst (λ n. AddsJob n index q reply old new) is job) kind granted qs more w here))
 
 -- no query is left
-pub ask_end : (p : Part) (ledger : LedgerView) (rest : List Query) (done : List Reply) (F : List Reply → Part → Type 0) → length rest < 1 → ((more : List Reply) (w : Part) → IsAlone p ledger rest more w → F (done ++ more) w) → F done p
-ask_end p ledger [] done F none inv = subst (λ (l : List Reply). F l p) (append-nil done) (inv [] p (record { kinds = tt; placed = tt; told = refl; ran = tt }))
-ask_end p ledger (q ∷ qs) done F none inv = absurd (omega (arith, none))
+pub ask_end : (number index : ℕ) (p : Part) (ledger : LedgerView) (rest : List Query) (done : List Reply) (F : List Reply → Part → Type 0) → length rest < 1 → ((more : List Reply) (w : Part) → IsAlone number index p ledger rest more w → F (done ++ more) w) → F done p
+ask_end number index p ledger [] done F none inv = subst (λ (l : List Reply). F l p) (append-nil done) (inv [] p (record { kinds = tt; told = refl; ran = tt }))
+ask_end number index p ledger (q ∷ qs) done F none inv = absurd (omega (arith, none))

@@ -8,7 +8,15 @@ use Rattle.query_rules.specs.declared.query.Reply.{Reply}
 use Rattle.query_rules.specs.declared.query.Reply.TheVariants.{Placed, Busy, Late, Job}
 use Rattle.query_rules.specs.Maps.{no_entries}
 use Rattle.query_rules.specs.History.{StandsAt, is_write_at, IsLegal}
-use Rattle.server_run.specs.Alone.{told_onto}
+
+-- the queries with their placed replies, the newest first, in front of those that were told before
+abbrev pub told_onto : List (Query × Reply) → List Query → List Reply → List (Query × Reply)
+told_onto told [] replies = told
+told_onto told (q ∷ queries) [] = told
+told_onto told (q ∷ queries) (Placed place said ∷ replies) = told_onto ((q, Placed place said) ∷ told) queries replies
+told_onto told (q ∷ queries) (Busy ∷ replies) = told_onto told queries replies
+told_onto told (q ∷ queries) (Late now ∷ replies) = told_onto told queries replies
+told_onto told (q ∷ queries) (Job at result ∷ replies) = told_onto told queries replies
 
 -- all placed replies stand, those that were told before and those of the queries
 turned_all : (rows : ℕ) (writes : List Query) (told : List (Query × Reply)) (qs : List Query) (rs : List Reply) → AllByRecursion (StandsAt rows no_entries writes) (told_onto told qs rs)

@@ -1,5 +1,5 @@
 -- What one caller is told where nobody else asks.
-use Rattle.std.specs.Prelude.{◌≡◌, ℕ, ◌+◌, ◌≤◌, List, [], ◌∷◌, length, map, count_by, is_some, Some, if◌then◌else◌}
+use Rattle.std.specs.Prelude.{◌≡◌, ℕ, ◌+◌, ◌≤◌, List, [], ◌∷◌, length, count_by, is_some, Some, if◌then◌else◌}
 use Rattle.std.specs.List.{AllZip}
 use Rattle.query_rules.specs.declared.query.Query.{Query}
 use Rattle.query_rules.specs.declared.query.Said.{Said}
@@ -11,8 +11,10 @@ use Rattle.query_rules.specs.Ledger.{Accounts, act_of, result_of, accounts_of}
 use Rattle.query_rules.specs.History.{place_of, IsKindFor}
 use Rattle.query_log.specs.Ledgers.{LedgerView, accounts_in}
 use Rattle.map_cargo.specs.declared.entry.Part.{Part}
-use Rattle.map_cargo.specs.Entries.{as_reply}
-use Rattle.query_cells.specs.Asked.{may_write}
+use Rattle.map_cargo.specs.declared.entry.Entry.{Entry}
+use Rattle.map_cargo.specs.declared.entry.Told.{Told}
+use Rattle.map_cargo.specs.declared.entry.Told.TheVariants.{Wrote, Read}
+use Rattle.query_cells.specs.Asked.{may_write, entry_for}
 
 -- how many of these ask the ledger
 abbrev pub jobs_of : List Query → ℕ
@@ -26,24 +28,20 @@ writes_of queries = count_by may_write queries
 abbrev pub seen_after : ℕ → Said → ℕ
 seen_after n said = if is_write said then n + 1 else n
 
--- each placed reply stands behind all writes that were seen, and its own is seen then; the others are jobs
-abbrev pub PlacedAlone : ℕ → List Query → List Reply → Type 0
-PlacedAlone seen [] [] = Unit {0}
-PlacedAlone seen [] (reply ∷ replies) = ⊥
-PlacedAlone seen (q ∷ queries) [] = ⊥
-PlacedAlone seen (q ∷ queries) (Placed place said ∷ replies) = (n : ℕ) × (place ≡ place_of n said) × (seen ≤ n) × PlacedAlone (seen_after n said) queries replies
-PlacedAlone seen (q ∷ queries) (Busy ∷ replies) = ⊥
-PlacedAlone seen (q ∷ queries) (Late now ∷ replies) = ⊥
-PlacedAlone seen (q ∷ queries) (Job at result ∷ replies) = PlacedAlone seen queries replies
+-- what a pass tells of a placed reply
+abbrev pub told_as : ℕ → Entry → Told
+told_as n e = if is_write e.said then Wrote n e else Read n e
 
--- the queries with their placed replies, the newest first, in front of those that were told before
-abbrev pub told_onto : List (Query × Reply) → List Query → List Reply → List (Query × Reply)
-told_onto told [] replies = told
-told_onto told (q ∷ queries) [] = told
-told_onto told (q ∷ queries) (Placed place said ∷ replies) = told_onto ((q, Placed place said) ∷ told) queries replies
-told_onto told (q ∷ queries) (Busy ∷ replies) = told_onto told queries replies
-told_onto told (q ∷ queries) (Late now ∷ replies) = told_onto told queries replies
-told_onto told (q ∷ queries) (Job at result ∷ replies) = told_onto told queries replies
+-- Each placed reply, under its caller's number and its index, stands behind all writes that were seen, and is told in front of the others, from `told` on until `later`; the rest are jobs
+abbrev pub ToldAlone : ℕ → ℕ → ℕ → List Told → List Query → List Reply → List Told → Type 0
+ToldAlone number index seen told [] [] later = later ≡ told
+ToldAlone number index seen told [] (reply ∷ replies) later = ⊥
+ToldAlone number index seen told (q ∷ queries) [] later = ⊥
+ToldAlone number index seen told (q ∷ queries) (Placed place said ∷ replies) later =
+    (n : ℕ) × (place ≡ place_of n said) × (seen ≤ n) × ToldAlone number (index + 1) (seen_after n said) (told_as n (entry_for number index q said) ∷ told) queries replies later
+ToldAlone number index seen told (q ∷ queries) (Busy ∷ replies) later = ⊥
+ToldAlone number index seen told (q ∷ queries) (Late now ∷ replies) later = ⊥
+ToldAlone number index seen told (q ∷ queries) (Job at result ∷ replies) later = ToldAlone number (index + 1) seen told queries replies later
 
 -- each job has the result of its act on these accounts, after p jobs, and leaves the accounts for the next; the others are queries of the maps
 abbrev pub RanAlone : ℕ → Accounts → ℕ → List Query → List Reply → Type 0
@@ -56,9 +54,8 @@ RanAlone rows accounts p (q ∷ queries) (Late now ∷ replies) = ⊥
 RanAlone rows accounts p (q ∷ queries) (Job at result ∷ replies) =
     (act : LedgerAct) × (act_of q ≡ Some act) × (at ≡ p) × (result ≡ result_of rows accounts act) × RanAlone rows (accounts_of rows accounts act) (p + 1) queries replies
 
--- Replies to these queries, each of its query's kind, took what a pass knows from p to r: the placed ones are told there in their order, and the jobs ran on this ledger
-pub record IsAlone (p : Part) (ledger : LedgerView) (queries : List Query) (replies : List Reply) (r : Part) : Type 0 where
+-- Replies to these queries, the first of which has this index, each of its query's kind, took what a pass knows from p to r: the placed ones are told there in their order, and the jobs ran on this ledger
+pub record IsAlone (number index : ℕ) (p : Part) (ledger : LedgerView) (queries : List Query) (replies : List Reply) (r : Part) : Type 0 where
   pub kinds : AllZip IsKindFor queries replies
-  pub placed : PlacedAlone p.seen queries replies
-  pub told : map as_reply r.told ≡ told_onto (map as_reply p.told) queries replies
+  pub told : ToldAlone number index p.seen p.told queries replies r.told
   pub ran : RanAlone ledger.rows (accounts_in ledger) (length ledger.entries) queries replies

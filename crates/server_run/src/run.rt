@@ -95,7 +95,7 @@ fn ask_all<R: Wait, T: Clock, G: Gate>(
     requires room { (room.items ≡ []) × (length queries.now ≤ vec_capacity room) }
     ensures pass { IsPassOf hall.now pass.new × IsIdle (view pass.new) }
     ensures width { width (view pass.new) ≡ width (view pass.old) }
-    ensures told { IsAlone (view pass.old).part ledger.old queries.now result.items (view pass.new).part }
+    ensures told { IsAlone (view pass.old).number 0 (view pass.old).part ledger.old queries.now result.items (view pass.new).part }
 {
     let mut replies = room;
     let mut index = 0;

@@ -11,15 +11,15 @@ use Rattle.server_run.proofs.run.ask_all.Goals as goal
 
 pub loop-rest-preserved : goal.loop-rest-preserved
 loop-rest-preserved g c =
-    let F : List Reply → Part → Type 0 = λ l w. IsAlone (view c.args.pass.now).part c.args.ledger.now c.args.queries.now l w in
+    let F : List Reply → Part → Type 0 = λ l w. IsAlone (view c.args.pass.now).number 0 (view c.args.pass.now).part c.args.ledger.now c.args.queries.now l w in
     let said = c.ask-reply.ensures in
     let some = c.in-len1-up.len_at_least in
     let so = c.loop-rest.invariant in
     let rest = c.loop-rest.rest.now in
     let len = ap length (take_rest rest 1) ∙ length-drop 1 rest in
     let more = ap length c.push_reserved.ensures.items ∙ length-append c.loop-rest.replies.items (c.ask-reply.result ∷ []) in (
-      ask_next (view c.loop-rest.pass).number c.loop-rest.index rest _ c.loop-rest.replies.items c.push_reserved.new.list.items c.ask-reply.result (view c.loop-rest.pass).part (view c.ask-reply.new.pass).part c.loop-rest.ledger c.ask-reply.new.ledger F
-          some said.told said.ledger said.kind (said.alone c.requires.hall.seats) c.push_reserved.ensures.items so.0,
+      ask_next (view c.args.pass.now).number (view c.loop-rest.pass).number c.loop-rest.index rest _ c.loop-rest.replies.items c.push_reserved.new.list.items c.ask-reply.result (view c.loop-rest.pass).part (view c.ask-reply.new.pass).part c.loop-rest.ledger c.ask-reply.new.ledger F
+          some so.2.number said.told said.ledger said.kind (said.alone c.requires.hall.seats) c.push_reserved.ensures.items so.0,
       (said.pass, said.idle),
       record { number = said.same.number ∙ so.2.number; span = said.same.span ∙ so.2.span; taken = said.same.taken ∙ so.2.taken },
       all_next _ rest so.3,
@@ -31,5 +31,5 @@ loop-rest-preserved g c =
 
 pub returns-clause-told : goal.returns-clause-told
 returns-clause-told g c =
-    let F : List Reply → Part → Type 0 = λ l w. IsAlone (view c.args.pass.now).part c.args.ledger.now c.args.queries.now l w in
-    ask_end (view c.loop-rest.pass).part c.loop-rest.ledger c.loop-rest.rest.now c.loop-rest.replies.items F c.in_default.len_below c.loop-rest.invariant.0
+    let F : List Reply → Part → Type 0 = λ l w. IsAlone (view c.args.pass.now).number 0 (view c.args.pass.now).part c.args.ledger.now c.args.queries.now l w in
+    ask_end (view c.args.pass.now).number c.loop-rest.index (view c.loop-rest.pass).part c.loop-rest.ledger c.loop-rest.rest.now c.loop-rest.replies.items F c.in_default.len_below c.loop-rest.invariant.0

@@ -12,7 +12,7 @@ use Rattle.server_run.proofs.run.ask_all.Given as goal
 -- whatever replies are right for the queries that are left, behind the replies so far they are right for all
 abbrev pub invariant-loop-rest : goal.invariant-loop-rest
 invariant-loop-rest g l =
-    ((more : List Reply) (w : Part) → IsAlone (view l.pass).part l.ledger l.rest more w → IsAlone (view l.fn.pass).part l.fn.ledger l.queries (l.replies.items ++ more) w)
+    ((more : List Reply) (w : Part) → IsAlone (view l.fn.pass).number l.index (view l.pass).part l.ledger l.rest more w → IsAlone (view l.fn.pass).number 0 (view l.fn.pass).part l.fn.ledger l.queries (l.replies.items ++ more) w)
     × (IsPassOf l.hall l.pass × IsIdle (view l.pass))
     × KeepsNumbers (view l.fn.pass) (view l.pass)
     × AllByRecursion (TakesBelow (cargo_of l.hall).cells) l.rest

@@ -33,5 +33,5 @@ returns-clause-history g c =
     let whole : IsLegal rows no_entries (map as_reply (view c.ask_all-replies.new.pass).part.told) = subst (λ n. IsLegal n no_entries (map as_reply (view c.ask_all-replies.new.pass).part.told)) c.in_ok-hall.ensures.rows legal in
     history_one rows callers c.of-outcome-2.result queries replies c.callers-callers.ensures.script.one some
     (c.queries-queries.ensures ∙ ap (λ (l : List (List Query)). get_or l 0 []) c.callers-callers.ensures.value) told
-    (history_alone rows c.count_jobs.result queries replies (view c.in_ok-hall.pass).part (view c.ask_all-replies.new.pass).part c.in_ok-ledger.ledger
+    (history_alone rows c.count_jobs.result (view c.in_ok-hall.pass).number queries replies (view c.in_ok-hall.pass).part (view c.ask_all-replies.new.pass).part c.in_ok-ledger.ledger
           (ap (λ (p : Part). p.seen) first.part) (ap (λ (p : Part). p.told) first.part) c.in_ok-ledger.ensures c.ask_all-replies.ensures.told whole)
