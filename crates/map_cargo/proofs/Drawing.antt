@@ -18,7 +18,7 @@ use Rattle.map_cargo.specs.declared.entry.Told.TheVariants.{Wrote, Read}
 use Rattle.map_cargo.specs.declared.entry.Part.{Part}
 use Rattle.map_cargo.specs.Cells.{number_place, log_place, cell_words, Means}
 use Rattle.map_cargo.specs.Entries.{queries, named_cells, spoken_cells, log_words}
-use Rattle.map_cargo.specs.History.{Seat, Stands, WrittenAs, is_wrote, stored, mode_at, plain_of, Knows, OneHistory, Rested}
+use Rattle.map_cargo.specs.History.{Seat, Stands, WrittenAs, is_wrote, stored, mode_at, plain_of, Knows, OneHistory, IsRested}
 use Rattle.map_cargo.specs.Laws.{each_back, all_stored}
 use Rattle.map_cargo.specs.Steps.{Drew, logged, placed}
 use Rattle.map_cargo.proofs.Places.{cell_far}
@@ -32,7 +32,7 @@ drawn p w e writes = record { words = p.words; writes = noted writes (named_cell
 -- a write is drawn
 pub draws : (opening : Maps) (c : MapCargo) (id place writes : ℕ) (e f : Entry) (q : Seat) → place ≡ number_place c → e ≡ f → c.writes ≡ writes → 1 ≤ q.quota
     → ((cell : ℕ) → Has (named_cells e.query) cell → cell < c.cells) → ((cell : ℕ) → Has (named_cells e.query) cell → mode_at q cell ≡ exclusive_mode)
-    → reply_of c.rows (plain_of opening q.part) e.query ≡ Some e.said → is_write e.said ≡ true → Rested q.part
+    → reply_of c.rows (plain_of opening q.part) e.query ≡ Some e.said → is_write e.said ≡ true → IsRested q.part
     → Notes (OneHistory opening c) id q 1 place (λ x. (x + 1) % 2 ^ 64) (λ found p r. Drew opening 0 p r found f × (found < writes))
 draws opening c id place writes e f q is one many some' near holds said writes' rested ws qs h apart at in' fits =
     let E : List Entry = h.entries in let n : ℕ = length E in let k = h.knows id q at in

@@ -8,7 +8,7 @@ use mathlib.Core.Logic.{dite}
 use mathlib.Core.Option.{some, some-injective, some-ne-none}
 use native.Mathlib.Decide.{ℕ_discrete}
 use lib.ListN.{get_elem?}
-use Rattle.view_sums.specs.Sums.{total}
+use Rattle.view_sums.specs.Sums.{total, find}
 use Rattle.lock_model.specs.Locks.{Has}
 use Rattle.query_rules.specs.declared.query.Query.{Query}
 use Rattle.query_rules.specs.declared.query.Reply.{Reply}
@@ -21,9 +21,10 @@ use Rattle.map_cargo.specs.declared.entry.Told.{Told}
 use Rattle.map_cargo.specs.declared.entry.Told.TheVariants.{Wrote, Read}
 use Rattle.map_cargo.specs.declared.entry.Part.{Part}
 use Rattle.map_cargo.specs.Entries.{queries, as_reply}
-use Rattle.map_cargo.specs.History.{Seat, Stands, WrittenAs, ReadAfter, OneHistory, Rested, is_wrote, first_part}
+use Rattle.map_cargo.specs.History.{Seat, Stands, WrittenAs, ReadAfter, OneHistory, IsRested, is_wrote, first_part}
 use Rattle.map_cargo.specs.Laws.{all_stored}
 use Rattle.map_cargo.specs.Steps.{Ended}
+use Rattle.map_cargo.proofs.Lists.{has_at}
 
 nothing : {A : Type 0} (f : A → ℕ) (l : List A) → ((j : ℕ) (u : A) → get_elem? l j ≡ some u → f u ≡ 0) → total f l ≡ 0
 nothing f [] none = refl
@@ -34,16 +35,25 @@ sole f [] id q at none = absurd (some-ne-none q (sym at))
 sole f (x ∷ xs) zero q at none = omega (arith, ap f (some-injective x q at), nothing f xs (λ j u e. none (suc j) u e (λ bad. omega arith)))
 sole f (x ∷ xs) (suc id) q at none = omega (arith, none zero x refl (λ bad. omega arith), sole f xs id q at (λ j u e ne. none (suc j) u e (λ same. ne (omega arith))))
 
-pub ended : (opening : Maps) (c : MapCargo) (ws : List ℕ) (q : Seat) (id : ℕ) (whole : Type 0) → Rested q.part
+it_wrote : (w : ℕ) (t : Told) → 0 < is_wrote w t → (e : Entry) × (t ≡ Wrote w e)
+it_wrote w (Wrote n e) pos = dite (ℕ_discrete n w) (λ same. (e, ap (λ (z : ℕ). Wrote z e) same)) (λ ne. let none : is_wrote w (Wrote n e) ≡ 0 = ap (λ b. cond b 1 0) (ne_eqb n w ne) in absurd (omega arith))
+it_wrote w (Read n e) pos = absurd (omega arith)
+
+holds_write : (w : ℕ) (told : List Told) → 0 < total (is_wrote w) told → (e : Entry) × Has told (Wrote w e)
+holds_write w told pos = let u = find (is_wrote w) told pos in let t = it_wrote w u.1 u.3 in (t.0, subst (Has told) t.1 (has_at told u.0 u.1 u.2))
+
+pub ended : (opening : Maps) (c : MapCargo) (ws : List ℕ) (q : Seat) (id : ℕ) (whole : Type 0) → IsRested q.part
     → (qs : List Seat) × OneHistory opening c ws qs × (get_elem? qs id ≡ some q) × (whole → (j : ℕ) (u : Seat) → get_elem? qs j ≡ some u → j ≢ id → u.part ≡ first_part) → Ended opening c ws q.part whole
 ended opening c ws q id whole rested t =
-    let h = t.1 in let k = h.knows id q t.2 in record {
+    let h = t.1 in let k = h.knows id q t.2 in
+    let once : whole → (w : ℕ) → w < length h.entries → total (is_wrote w) q.part.told ≡ 1 = λ is w below. sym (sole (λ (u : Seat). total (is_wrote w) u.part.told) t.0 id q t.2 (λ j u e ne. ap (λ (p : Part). total (is_wrote w) p.told) (t.3 is j u e ne))) ∙ h.once w below in record {
       entries = h.entries;
       size = h.size;
       number = h.number;
       told = k.told;
       logged = λ w e has j small. k.logged w e has j small (subst (λ (n : ℕ). j < n) (sym (all_stored q.part w rested)) small);
-      all = λ is w below. sym (sole (λ (u : Seat). total (is_wrote w) u.part.told) t.0 id q t.2 (λ j u e ne. ap (λ (p : Part). total (is_wrote w) p.told) (t.3 is j u e ne))) ∙ h.once w below;
+      written = λ is w below. let one = once is w below in holds_write w q.part.told (omega arith);
+      all = once;
     }
 
 get_seam : (ws : List Query) (q : Query) (rest : List Query) → slice_get (ws ++ q ∷ rest) (length ws) ≡ Some q

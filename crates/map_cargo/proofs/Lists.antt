@@ -42,7 +42,7 @@ one_entry {opening} {rows} {entries} {w} {e} {f} s t =
     let same : length s.newer ≡ length t.newer = omega (arith, place s, place t) in
     some-injective e f (sym (nth s.newer s.older e) ∙ ap (λ l. get_elem? l (length s.newer)) (sym s.stands ∙ t.stands) ∙ ap (get_elem? (t.newer ++ f ∷ t.older)) same ∙ nth t.newer t.older f)
 
-has_at : {A : Type 0} (l : List A) (i : ℕ) (a : A) → get_elem? l i ≡ some a → Has l a
+pub has_at : {A : Type 0} (l : List A) (i : ℕ) (a : A) → get_elem? l i ≡ some a → Has l a
 has_at [] i a e = absurd (some-ne-none a (sym e))
 has_at (x ∷ xs) zero a e = inl (sym (some-injective x a e))
 has_at (x ∷ xs) (suc i) a e = inr (has_at xs i a e)

@@ -9,7 +9,7 @@ use Rattle.query_rules.specs.Maps.{PlainMap, Maps, with_value, without}
 use Rattle.query_rules.specs.History.{maps_after}
 use Rattle.map_cargo.specs.declared.entry.Part.{Part}
 use Rattle.map_cargo.specs.Cells.{used_at, key_at, value_in, Means, lookup}
-use Rattle.map_cargo.specs.History.{Settled, words_of, plain_of}
+use Rattle.map_cargo.specs.History.{IsSettled, words_of, plain_of}
 use Rattle.map_cargo.specs.Laws.{lookup_here, lookup_else}
 use Rattle.map_cargo.specs.Steps.{rewrote, Reworded}
 
@@ -248,8 +248,8 @@ del_old p r cell key row last k v before rows made is k_is v_is counts low key_i
 
 -- a key that was put in without a draw and taken out again leaves its cell settled
 pub taken_back : (opening : Maps) (lock cell key value : ℕ) (p q q' r : Part) → lock ≡ cell → Reworded cell p q → None ≡ (plain_of opening p cell).value_at key → q' ≡ q → Reworded cell q' r
-    → Means (words_of r cell) (without (with_value (plain_of opening p cell) key value) key) → Settled opening lock r
+    → Means (words_of r cell) (without (with_value (plain_of opening p cell) key value) key) → IsSettled opening lock r
 taken_back opening lock cell key value p q q' r at first none same second h =
     let writes : r.writes ≡ p.writes = second.writes ∙ ap (λ (z : Part). z.writes) same ∙ first.writes in
     let maps : without (with_value (plain_of opening p cell) key value) key ≡ plain_of opening r cell = restored (plain_of opening p cell) key value (sym none) ∙ ap (λ (l : List (ℕ × List Query)). maps_after opening (lookup [] l cell) cell) (sym writes) in
-    subst (λ (k : ℕ). Settled opening k r) (sym at) (subst (Means (words_of r cell)) maps h)
+    subst (λ (k : ℕ). IsSettled opening k r) (sym at) (subst (Means (words_of r cell)) maps h)

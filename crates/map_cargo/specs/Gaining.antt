@@ -12,7 +12,7 @@ use Rattle.query_rules.specs.Maps.{Maps}
 use Rattle.map_cargo.specs.declared.entry.Entry.{Entry}
 use Rattle.map_cargo.specs.declared.entry.Part.{Part}
 use Rattle.map_cargo.specs.Cells.{Means}
-use Rattle.map_cargo.specs.History.{Learns, Settled, words_of, plain_of}
+use Rattle.map_cargo.specs.History.{Learns, IsSettled, words_of, plain_of}
 use Rattle.map_cargo.specs.Laws.{after_gain}
 use Rattle.map_cargo.specs.Steps.{Gained, placed}
 
@@ -54,6 +54,6 @@ gained_from opening lock u v w part number quota span taken h = record {
 }
 
 -- a settled cell stays settled where the pass only places a read
-pub still_settled : (opening : Maps) (lock cell : ℕ) (p q r : Part) (n : ℕ) (e : Entry) → lock ≡ cell → q ≡ p → r ≡ placed q n e → Settled opening cell p → Settled opening lock r
+pub still_settled : (opening : Maps) (lock cell : ℕ) (p q r : Part) (n : ℕ) (e : Entry) → lock ≡ cell → q ≡ p → r ≡ placed q n e → IsSettled opening cell p → IsSettled opening lock r
 still_settled opening lock cell p q r n e at same is h =
-    subst (Settled opening lock) (sym (is ∙ ap (λ (z : Part). placed z n e) same)) (subst (λ (k : ℕ). Means (words_of p k) (plain_of opening p k)) (sym at) h)
+    subst (IsSettled opening lock) (sym (is ∙ ap (λ (z : Part). placed z n e) same)) (subst (λ (k : ℕ). Means (words_of p k) (plain_of opening p k)) (sym at) h)

@@ -40,8 +40,8 @@ abbrev pub words_of : Part → ℕ → List ℕ
 words_of p cell = lookup [] p.words cell
 
 -- no log row is half stored
-abbrev pub Rested : Part → Type 0
-Rested p = p.stored ≡ 8
+abbrev pub IsRested : Part → Type 0
+IsRested p = p.stored ≡ 8
 
 -- a pass that gained a mode at a lock knows the words of its cell, and the writes that made its plain map
 abbrev pub learnt : Part → ℕ → List ℕ → List Query → Part
@@ -116,5 +116,5 @@ module _ (opening : Maps) where
   Learns lock p q = (words : List ℕ) × (writes : List Query) × Means words (maps_after opening writes lock) × (q ≡ learnt p lock words writes)
 
   -- the cell's words mean its plain map
-  abbrev pub Settled : ℕ → Part → Type 0
-  Settled lock p = Means (words_of p lock) (plain_of p lock)
+  abbrev pub IsSettled : ℕ → Part → Type 0
+  IsSettled lock p = Means (words_of p lock) (plain_of p lock)

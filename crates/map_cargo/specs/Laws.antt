@@ -23,7 +23,7 @@ use Rattle.map_cargo.specs.declared.entry.Told.TheVariants.{Wrote}
 use Rattle.map_cargo.specs.declared.entry.Part.{Part}
 use Rattle.map_cargo.specs.Cells.{width, number_place, log_place, word_count, cell_words, Means, lookup}
 use Rattle.map_cargo.specs.Entries.{queries, log_words}
-use Rattle.map_cargo.specs.History.{Seat, Stands, is_wrote, stored, mode_at, words_of, plain_of, Knows, Each, OneHistory, learnt, Learns, Settled, Rested, first_part, split_part, joined_part, max_of}
+use Rattle.map_cargo.specs.History.{Seat, Stands, is_wrote, stored, mode_at, words_of, plain_of, Knows, Each, OneHistory, learnt, Learns, IsSettled, IsRested, first_part, split_part, joined_part, max_of}
 
 module _ {A : Type 0} (d : A) where
   pub lookup_here : (xs : List (ℕ × A)) (k : ℕ) (x : A) → lookup d ((k, x) ∷ xs) k ≡ x
@@ -144,7 +144,7 @@ module _ (opening : Maps) (c : MapCargo) where
         ))
 
     -- the law of a loss
-    pub lower_keeps : Lowers (slice_index_or q.modes lock None) m → (slice_index_or q.modes lock None ≡ exclusive_mode → Settled opening lock q.part) → OneHistory opening c ws (slice_set qs id (changed_seat q lock m q.part))
+    pub lower_keeps : Lowers (slice_index_or q.modes lock None) m → (slice_index_or q.modes lock None ≡ exclusive_mode → IsSettled opening lock q.part) → OneHistory opening c ws (slice_set qs id (changed_seat q lock m q.part))
     lower_keeps down settled =
         let r : Seat = changed_seat q lock m q.part in let k = h.knows id q at in
         let held : mode_at q lock ≢ None = λ none. subst (λ (z : Option Mode). Lowers z m) none down in
@@ -216,7 +216,7 @@ module _ (opening : Maps) (c : MapCargo) where
       }
 
   -- the law of a join
-  pub join_keeps : (ws : List ℕ) (qs : List Seat) (id other : ℕ) (q r : Seat) → OneHistory opening c ws qs → get_elem? qs id ≡ some q → get_elem? qs other ≡ some r → other ≢ id → ((lock : ℕ) → slice_index_or r.modes lock None ≡ None) → Rested r.part
+  pub join_keeps : (ws : List ℕ) (qs : List Seat) (id other : ℕ) (q r : Seat) → OneHistory opening c ws qs → get_elem? qs id ≡ some q → get_elem? qs other ≡ some r → other ≢ id → ((lock : ℕ) → slice_index_or r.modes lock None ≡ None) → IsRested r.part
       → OneHistory opening c ws (slice_set (slice_set qs id (joined_seat q r (joined_part q.part r.part))) other (spent_seat first_part))
   join_keeps ws qs id other q r h at at' ne off rested =
       let b : Seat = joined_seat q r (joined_part q.part r.part) in let n : Seat = spent_seat first_part in let rs : List Seat = slice_set qs id b in
@@ -243,9 +243,9 @@ module _ (opening : Maps) (c : MapCargo) where
 
 module _ (opening : Maps) where
   -- what a pass has after it gained a mode at a lock
-  pub after_gain : (lock : ℕ) (p q : Part) → Learns opening lock p q → Settled opening lock q × (q.told ≡ p.told) × (q.seen ≡ p.seen) × (q.row ≡ p.row) × (q.stored ≡ p.stored) × ((k : ℕ) → k ≢ lock → (words_of q k ≡ words_of p k) × (plain_of opening q k ≡ plain_of opening p k))
+  pub after_gain : (lock : ℕ) (p q : Part) → Learns opening lock p q → IsSettled opening lock q × (q.told ≡ p.told) × (q.seen ≡ p.seen) × (q.row ≡ p.row) × (q.stored ≡ p.stored) × ((k : ℕ) → k ≢ lock → (words_of q k ≡ words_of p k) × (plain_of opening q k ≡ plain_of opening p k))
   after_gain lock p q t =
-      subst (λ (z : Part). Settled opening lock z × (z.told ≡ p.told) × (z.seen ≡ p.seen) × (z.row ≡ p.row) × (z.stored ≡ p.stored) × ((k : ℕ) → k ≢ lock → (words_of z k ≡ words_of p k) × (plain_of opening z k ≡ plain_of opening p k))) (sym t.3) (
+      subst (λ (z : Part). IsSettled opening lock z × (z.told ≡ p.told) × (z.seen ≡ p.seen) × (z.row ≡ p.row) × (z.stored ≡ p.stored) × ((k : ℕ) → k ≢ lock → (words_of z k ≡ words_of p k) × (plain_of opening z k ≡ plain_of opening p k))) (sym t.3) (
         subst (λ (l : List Query). Means (words_of (learnt p lock t.0 t.1) lock) (maps_after opening l lock)) (sym (lookup_here [] p.writes lock t.1)) (subst (λ (l : List ℕ). Means l (maps_after opening t.1 lock)) (sym (lookup_here [] p.words lock t.0)) t.2),
         refl,
         refl,
@@ -267,7 +267,7 @@ exclusive_or cell (q ∷ qs) = ⊎_elim
     (is_exclusive (mode_at q cell))
 
 -- a cell that no unsettled pass holds exclusively has its plain map
-pub settled_cells : (opening : Maps) (c : MapCargo) (ws : List ℕ) (qs : List Seat) (h : OneHistory opening c ws qs) (cell : ℕ) → cell < c.cells → Each (λ q. mode_at q cell ≡ exclusive_mode → Settled opening cell q.part) qs
+pub settled_cells : (opening : Maps) (c : MapCargo) (ws : List ℕ) (qs : List Seat) (h : OneHistory opening c ws qs) (cell : ℕ) → cell < c.cells → Each (λ q. mode_at q cell ≡ exclusive_mode → IsSettled opening cell q.part) qs
     → Means (cell_words c ws cell) (maps_after opening (queries h.entries) cell)
 settled_cells opening c ws qs h cell below settled = ⊎_elim
     (λ nobody. h.calm cell below nobody)

@@ -16,7 +16,7 @@ use Rattle.map_cargo.specs.declared.entry.Told.TheVariants.{Wrote, Read}
 use Rattle.map_cargo.specs.declared.entry.Part.{Part}
 use Rattle.map_cargo.specs.Cells.{number_place, log_place, word_count}
 use Rattle.map_cargo.specs.Entries.{named_cells, spoken_cells, log_words}
-use Rattle.map_cargo.specs.History.{words_of, plain_of, is_wrote, Stands, Settled, Rested}
+use Rattle.map_cargo.specs.History.{words_of, plain_of, is_wrote, Stands, IsSettled, IsRested}
 
 -- the hall has as many words as its cargo, which is so of what `make` gives
 abbrev pub Suits : Hall MapCargo Part → Type 0
@@ -69,13 +69,13 @@ pub record Left (v w : View Part) : Type 0 where
   pub taken : w.taken ≡ v.taken
 
 -- a pass between two queries: away from each lock, with no log row half stored
-abbrev pub Idle : View Part → Type 0
-Idle v = ((lock : ℕ) → standing v lock ≡ Away) × Rested v.part
+abbrev pub IsIdle : View Part → Type 0
+IsIdle v = ((lock : ℕ) → standing v lock ≡ Away) × IsRested v.part
 
 module _ (opening : Maps) where
   -- a mode was gained at a lock: its cell is settled, and all else that the pass knows stays
   pub record Gained (lock : ℕ) (v w : View Part) : Type 0 where
-    pub settled : Settled opening lock w.part
+    pub settled : IsSettled opening lock w.part
     pub words : (k : ℕ) → k ≢ lock → words_of w.part k ≡ words_of v.part k
     pub plain : (k : ℕ) → k ≢ lock → plain_of opening w.part k ≡ plain_of opening v.part k
     pub seen : w.part.seen ≡ v.part.seen
@@ -103,7 +103,7 @@ module _ (opening : Maps) where
     pub holds : (cell : ℕ) → Has (named_cells e.query) cell → mode_of (standing v cell) ≡ exclusive_mode
     pub said : reply_of c.rows (plain_of opening v.part) e.query ≡ Some e.said
     pub writes : is_write e.said ≡ true
-    pub rested : Rested v.part
+    pub rested : IsRested v.part
 
   -- The pass may place a read for this entry: it holds each cell that the reply speaks of, and the entry says what the plain maps say
   pub record MayPlace (c : MapCargo) (v : View Part) (e : Entry) : Type 0 where
@@ -120,5 +120,6 @@ module _ (opening : Maps) where
     pub number : slice_index ws (number_place c) ≡ length entries
     pub told : (t : Told) → Has p.told t → Stands opening c.rows entries t
     pub logged : (w : ℕ) (e : Entry) → Has p.told (Wrote w e) → (j : ℕ) → j < 8 → slice_index ws (log_place c w j) ≡ slice_index (log_words e) j
-    -- where all passes were joined, each write is in its replies, once
+    -- where all passes were joined, each number that was drawn is a write's in its replies, once
+    pub written : whole → (w : ℕ) → w < length entries → (e : Entry) × Has p.told (Wrote w e)
     pub all : whole → (w : ℕ) → w < length entries → total (is_wrote w) p.told ≡ 1

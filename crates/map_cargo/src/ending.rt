@@ -8,7 +8,7 @@ ghost use Rattle.hall.specs.declared.view.Standing.TheVariants.{Away};
 ghost use Rattle.query_rules.specs.History.{IsLegal};
 ghost use Rattle.query_rules.specs.Maps.{no_entries};
 ghost use Rattle.map_cargo.specs.Entries.{as_reply};
-ghost use Rattle.map_cargo.specs.History.{Rested};
+ghost use Rattle.map_cargo.specs.History.{IsRested};
 ghost use Rattle.map_cargo.specs.Steps.{Ended};
 
 use crate::size::MapCargo;
@@ -20,7 +20,7 @@ use hall::{Closed, Hall, Pass};
 pub fn close(hall: Hall<MapCargo>, pass: Pass<MapCargo>) -> Closed
     requires pass { IsPassOf hall pass }
     requires away { (lock : ℕ) → standing (view pass) lock ≡ Away }
-    requires rested { Rested (view pass).part }
+    requires rested { IsRested (view pass).part }
     ensures shape { WasOf result (shape_of hall) }
     ensures ended { Ended no_entries (cargo_of hall) (closed_words result) (view pass).part (width (view pass) ≡ (shape_of hall).seats) }
     ensures legal { width (view pass) ≡ (shape_of hall).seats → IsLegal (cargo_of hall).rows no_entries (map as_reply (view pass).part.told) }

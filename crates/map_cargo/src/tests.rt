@@ -4,8 +4,8 @@ ghost use Rattle.hall.specs.Passes.{view, IsPassOf, cargo_of, shape_of};
 ghost use Rattle.hall.specs.Views.{standing};
 ghost use Rattle.hall.specs.declared.view.Standing.TheVariants.{Away, Inline, Exclusive};
 ghost use Rattle.query_rules.specs.Maps.{no_entries};
-ghost use Rattle.map_cargo.specs.History.{Settled, Rested};
-ghost use Rattle.map_cargo.specs.Steps.{Suits, Idle, Gained, Left, Alike};
+ghost use Rattle.map_cargo.specs.History.{IsSettled, IsRested};
+ghost use Rattle.map_cargo.specs.Steps.{Suits, IsIdle, Gained, Left, Alike};
 
 use crate::cells::{del, get, len, put};
 use crate::ending::close;
@@ -28,7 +28,7 @@ fn exclusive<A: Abort>(
 ) -> ExclusiveGuard
     requires pass { IsPassOf hall.now pass.old }
     requires cell { cell < (shape_of hall.now).locks }
-    requires idle { Idle (view pass.old) }
+    requires idle { IsIdle (view pass.old) }
     ensures pass { IsPassOf hall.now pass.new }
     ensures held { (result.lock ≡ cell) × (standing (view pass.new) cell ≡ Exclusive) }
     ensures others { (k : ℕ) → k ≢ cell → standing (view pass.new) k ≡ Away }
@@ -49,7 +49,7 @@ fn shared<A: Abort>(
 ) -> SharedGuard
     requires pass { IsPassOf hall.now pass.old }
     requires cell { cell < (shape_of hall.now).locks }
-    requires idle { Idle (view pass.old) }
+    requires idle { IsIdle (view pass.old) }
     ensures pass { IsPassOf hall.now pass.new }
     ensures held { (result.lock ≡ cell) × (standing (view pass.new) cell ≡ Inline) }
     ensures others { (k : ℕ) → k ≢ cell → standing (view pass.new) k ≡ Away }
@@ -68,10 +68,10 @@ fn leave(hall: &Hall<MapCargo>, pass: &mut Pass<MapCargo>, guard: ExclusiveGuard
     requires cell { guard.lock < (shape_of hall.now).locks }
     requires held { standing (view pass.old) guard.lock ≡ Exclusive }
     requires others { (k : ℕ) → k ≢ guard.lock → standing (view pass.old) k ≡ Away }
-    requires settled { Settled no_entries guard.lock (view pass.old).part }
-    requires rested { Rested (view pass.old).part }
+    requires settled { IsSettled no_entries guard.lock (view pass.old).part }
+    requires rested { IsRested (view pass.old).part }
     ensures pass { IsPassOf hall.now pass.new }
-    ensures idle { Idle (view pass.new) }
+    ensures idle { IsIdle (view pass.new) }
     ensures left { Left (view pass.old) (view pass.new) }
 {
     unlock(hall, pass, guard);
@@ -83,9 +83,9 @@ fn leave_shared(hall: &Hall<MapCargo>, pass: &mut Pass<MapCargo>, guard: SharedG
     requires cell { guard.lock < (shape_of hall.now).locks }
     requires held { standing (view pass.old) guard.lock ≡ Inline }
     requires others { (k : ℕ) → k ≢ guard.lock → standing (view pass.old) k ≡ Away }
-    requires rested { Rested (view pass.old).part }
+    requires rested { IsRested (view pass.old).part }
     ensures pass { IsPassOf hall.now pass.new }
-    ensures idle { Idle (view pass.new) }
+    ensures idle { IsIdle (view pass.new) }
     ensures left { Left (view pass.old) (view pass.new) }
 {
     unlock_shared(hall, pass, guard);
@@ -113,10 +113,10 @@ fn ask_put<A: Abort>(
 ) -> Said
     requires pass { IsPassOf hall.now pass.old × Suits hall.now }
     requires cell { (cell < (cargo_of hall.now).cells) × (cell < (shape_of hall.now).locks) }
-    requires idle { Idle (view pass.old) }
+    requires idle { IsIdle (view pass.old) }
     requires quota { 0 < (view pass.old).quota }
     ensures pass { IsPassOf hall.now pass.new }
-    ensures idle { Idle (view pass.new) }
+    ensures idle { IsIdle (view pass.new) }
     ensures quota { (view pass.old).quota ≤ (view pass.new).quota + 1 }
 {
     let query = Query::Put { cell, key, value };
@@ -149,10 +149,10 @@ fn ask_del<A: Abort>(
 ) -> Said
     requires pass { IsPassOf hall.now pass.old × Suits hall.now }
     requires cell { (cell < (cargo_of hall.now).cells) × (cell < (shape_of hall.now).locks) }
-    requires idle { Idle (view pass.old) }
+    requires idle { IsIdle (view pass.old) }
     requires quota { 0 < (view pass.old).quota }
     ensures pass { IsPassOf hall.now pass.new }
-    ensures idle { Idle (view pass.new) }
+    ensures idle { IsIdle (view pass.new) }
     ensures quota { (view pass.old).quota ≤ (view pass.new).quota + 1 }
 {
     let query = Query::Del { cell, key };
@@ -181,9 +181,9 @@ fn ask_get<A: Abort>(
 ) -> Said
     requires pass { IsPassOf hall.now pass.old × Suits hall.now }
     requires cell { (cell < (cargo_of hall.now).cells) × (cell < (shape_of hall.now).locks) }
-    requires idle { Idle (view pass.old) }
+    requires idle { IsIdle (view pass.old) }
     ensures pass { IsPassOf hall.now pass.new }
-    ensures idle { Idle (view pass.new) }
+    ensures idle { IsIdle (view pass.new) }
     ensures quota { (view pass.new).quota ≡ (view pass.old).quota }
 {
     let guard = shared(rt, hall, pass, cell);
@@ -201,9 +201,9 @@ fn ask_get<A: Abort>(
 fn ask_len<A: Abort>(rt: &A, hall: &Hall<MapCargo>, pass: &mut Pass<MapCargo>, cell: u64) -> Said
     requires pass { IsPassOf hall.now pass.old × Suits hall.now }
     requires cell { (cell < (cargo_of hall.now).cells) × (cell < (shape_of hall.now).locks) }
-    requires idle { Idle (view pass.old) }
+    requires idle { IsIdle (view pass.old) }
     ensures pass { IsPassOf hall.now pass.new }
-    ensures idle { Idle (view pass.new) }
+    ensures idle { IsIdle (view pass.new) }
     ensures quota { (view pass.new).quota ≡ (view pass.old).quota }
 {
     let guard = shared(rt, hall, pass, cell);
@@ -331,10 +331,10 @@ fn no_quota(rt: HostRuntime) {
 fn fill<A: Abort>(rt: &A, hall: &Hall<MapCargo>, pass: &mut Pass<MapCargo>, cell: u64, times: u64)
     requires pass { IsPassOf hall.now pass.old × Suits hall.now }
     requires cell { (cell < (cargo_of hall.now).cells) × (cell < (shape_of hall.now).locks) }
-    requires idle { Idle (view pass.old) }
+    requires idle { IsIdle (view pass.old) }
     requires quota { times ≤ (view pass.old).quota }
     ensures pass { IsPassOf hall.now pass.new }
-    ensures idle { Idle (view pass.new) }
+    ensures idle { IsIdle (view pass.new) }
 {
     for key in 0..times {
         ask_put(rt, hall, pass, cell, key, 1);
@@ -347,24 +347,24 @@ fn by_two_threads<R: Threads + Wait + Abort + Sync>(
     mut left: Pass<MapCargo>,
     mut right: Pass<MapCargo>,
 ) -> (Pass<MapCargo>, Pass<MapCargo>)
-    requires left { IsPassOf hall.now left × Idle (view left) × (100 ≤ (view left).quota) }
-    requires right { IsPassOf hall.now right × Idle (view right) × (100 ≤ (view right).quota) }
+    requires left { IsPassOf hall.now left × IsIdle (view left) × (100 ≤ (view left).quota) }
+    requires right { IsPassOf hall.now right × IsIdle (view right) × (100 ≤ (view right).quota) }
     requires two { Suits hall.now × (1 < (cargo_of hall.now).cells) × (1 < (shape_of hall.now).locks) }
-    ensures left { IsPassOf hall.now result.0 × Idle (view result.0) }
-    ensures right { IsPassOf hall.now result.1 × Idle (view result.1) }
+    ensures left { IsPassOf hall.now result.0 × IsIdle (view result.0) }
+    ensures right { IsPassOf hall.now result.1 × IsIdle (view result.1) }
 {
     thread::join(
         rt,
         move || -> Pass<MapCargo>
-            requires { IsPassOf hall.now left × Idle (view left) × (100 ≤ (view left).quota) × Suits hall.now × (1 < (cargo_of hall.now).cells) × (1 < (shape_of hall.now).locks) }
-            ensures { IsPassOf hall.entry.now result × Idle (view result) }
+            requires { IsPassOf hall.now left × IsIdle (view left) × (100 ≤ (view left).quota) × Suits hall.now × (1 < (cargo_of hall.now).cells) × (1 < (shape_of hall.now).locks) }
+            ensures { IsPassOf hall.entry.now result × IsIdle (view result) }
         {
             fill(rt, hall, &mut left, 0, 100);
             left
         },
         move || -> Pass<MapCargo>
-            requires { IsPassOf hall.now right × Idle (view right) × (100 ≤ (view right).quota) × Suits hall.now × (1 < (cargo_of hall.now).cells) × (1 < (shape_of hall.now).locks) }
-            ensures { IsPassOf hall.entry.now result × Idle (view result) }
+            requires { IsPassOf hall.now right × IsIdle (view right) × (100 ≤ (view right).quota) × Suits hall.now × (1 < (cargo_of hall.now).cells) × (1 < (shape_of hall.now).locks) }
+            ensures { IsPassOf hall.entry.now result × IsIdle (view result) }
         {
             fill(rt, hall, &mut right, 1, 100);
             right

@@ -2,7 +2,7 @@
 ghost use Rattle.std.specs.Prelude.{◌≡◌, ◌<◌, ◌≤◌, ◌+◌, ◌*◌, ◌^◌, ◌/◌, ℕ, Some, None, if◌then◌else◌, nat_lt, refl};
 ghost use Rattle.query_rules.specs.Maps.{no_entries};
 ghost use Rattle.map_cargo.specs.Cells.{word_count, number_place, width};
-ghost use Rattle.map_cargo.specs.History.{OneHistory, Learns, Settled, Rested, first_part, split_part, joined_part};
+ghost use Rattle.map_cargo.specs.History.{OneHistory, Learns, IsSettled, IsRested, first_part, split_part, joined_part};
 ghost use Rattle.map_cargo.specs.Laws.{starts, gain_keeps, raise_keeps, lower_keeps, split_keeps, join_keeps};
 
 use crate::entry::Part;
@@ -28,9 +28,9 @@ impl CargoRule for MapCargo {
 
     ghost lowered = { λ _ _ part. part };
 
-    ghost settled = { Settled no_entries };
+    ghost settled = { IsSettled no_entries };
 
-    ghost rested = { Rested };
+    ghost rested = { IsRested };
 
     ghost kept = { λ part. part };
 

@@ -1,5 +1,5 @@
 -- What a hold that was gained at last left elsewhere, and which steps it made.
-use Rattle.std.specs.Prelude.{◌≡◌, ℕ, ◌+◌, Bool, true, false, List, [], ◌∷◌, None, slice_index_or}
+use Rattle.std.specs.Prelude.{◌≡◌, ℕ, ◌+◌, true, false, List, [], ◌∷◌, None, slice_index_or}
 use Rattle.std.proofs.Common.{refl, ap, ◌∙◌}
 use Rattle.std.proofs.lemmas.List.Elements.{All-nil, All-cons}
 use Rattle.hall.specs.declared.cargo.CargoRule.{Ghosts}
@@ -10,11 +10,11 @@ use Rattle.hall.specs.declared.view.Shape.{Shape}
 use Rattle.hall.specs.declared.view.Standing.{Standing}
 use Rattle.hall.specs.declared.view.Standing.TheVariants.{Away, Announcing}
 use Rattle.hall.specs.declared.view.View.{View}
-use Rattle.hall.specs.Plays.{Holding, Retracts}
+use Rattle.hall.specs.Plays.{Retracts}
 use Rattle.hall.specs.Views.{after_look, after_step, entry_of, mode_of, standing}
-use Rattle.shared_mutex.specs.Acquiring.{AnnouncesWriter, ElsewhereSame, TakesShared}
-use Rattle.sync_cell.specs.Tries.{AddsSteps, AnnouncesAtLast, EntersAtLast, GivesUp, HoldsAtLast, IsLook, IsPatientTry, IsTry, OnlyLooked, ReadersMet, ReadersRefused, WritersRefused, WritesAtLast, is_retract}
-use Rattle.sync_cell.specs.TryLaws.{adds_as, adds_then, looked_once, meetings_looked, readers_looked, writers_looked}
+use Rattle.shared_mutex.specs.Acquiring.{ElsewhereSame}
+use Rattle.sync_cell.specs.Tries.{AddsSteps, AnnouncesAtLast, EntersAtLast, HoldsAtLast, IsLook, IsPatientTry, IsTry, OnlyLooked, is_retract}
+use Rattle.sync_cell.specs.TryLaws.{adds_as, adds_then, looked_once}
 
 module _ {P : Type 0} where
   pub still_elsewhere : (v u w : View P) (lock : ℕ) → OnlyLooked v lock u → ElsewhereSame u w lock → ElsewhereSame v w lock

@@ -1,3 +1,4 @@
 pub mod Tries
 pub mod TryLaws
 pub mod Waits
+pub mod Within

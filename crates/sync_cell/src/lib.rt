@@ -1,4 +1,5 @@
-//! Read and write calls on the cells of a hall: try, wait, or wait until a deadline. They follow Folly's `Synchronized`.
+//! Read and write calls on the cells of a hall: try, wait, wait until a deadline, or do some work while a cell is held.
+//! They follow Folly's `Synchronized`.
 //!
 //! A cell is a lock of the hall and what the hall's cargo keeps behind it. The crate stands on the tries of
 //! `shared_mutex`, which never wait, and adds no step of its own. It serves any cargo.
@@ -12,8 +13,13 @@ mod pointers;
 mod timed;
 mod trying;
 mod waiting;
+mod within;
 
 pub use pointers::{ReadPtr, WritePtr};
 pub use timed::{rlock_until, wlock_until};
 pub use trying::{try_rlock, try_wlock, unlock_read, unlock_write};
 pub use waiting::{rlock, wlock};
+pub use within::{ReadWork, WriteWork, with_rlock, with_wlock};
+
+#[cfg(test)]
+mod tests;

@@ -18,11 +18,7 @@ use std::thread;
 use timed_wait::Late;
 
 // Asks the clock once, after a try that was refused with this fault, and tells where it is late.
-fn late_after<T: Clock>(
-    clock: &mut T,
-    deadline: u64,
-    fault: TryFault,
-) -> Option<Late<TryFault>>
+fn late_after<T: Clock>(clock: &mut T, deadline: u64, fault: TryFault) -> Option<Late<TryFault>>
     ensures answers { AddsAnswer (T.answers clock.old) (T.answers clock.new) (T.last clock.new) }
     ensures late { MatchOption result (T.last clock.new < deadline) (λ late. (late.fault ≡ fault) × (late.deadline ≡ deadline) × (late.now ≡ T.last clock.new) × (deadline ≤ late.now)) }
 {
@@ -60,10 +56,10 @@ pub fn rlock_until<R: Wait, C: Cargo, T: Clock>(
     ensures elsewhere { ElsewhereSame (view pass.old) (view pass.new) cell }
     ensures step { MatchResult result
         (λ _. (faults : List TryFault) × EntersAtLast C.CargoRule (view pass.old) cell faults (view pass.new)
-            × AskedInTime T.last T.answers deadline (length faults) clock.old clock.new)
+        × AskedInTime T.last T.answers deadline (length faults) clock.old clock.new)
         (λ late. (faults : List TryFault) × ReadersRefused C.CargoRule cell (view pass.old) (late.fault ∷ faults) (view pass.new)
-            × OnlyLooked (view pass.old) cell (view pass.new)
-            × AskedTooLate T.last T.answers deadline (length faults + 1) clock.old clock.new late.now) }
+        × OnlyLooked (view pass.old) cell (view pass.new)
+        × AskedTooLate T.last T.answers deadline (length faults + 1) clock.old clock.new late.now) }
     ensures steps { AddsSteps (IsPatientTry (view pass.old) cell) (view pass.old) (view pass.new) }
 {
     'trying: for _ in rt.forever() {
@@ -97,10 +93,10 @@ fn announce_until<R: Wait, C: Cargo, T: Clock>(
     ensures elsewhere { ElsewhereSame (view pass.old) (view pass.new) cell }
     ensures step { MatchResult result
         (λ _. (faults : List TryFault) × AnnouncesAtLast C.CargoRule (view pass.old) cell faults (view pass.new)
-            × AskedInTime T.last T.answers deadline (length faults) clock.old clock.new)
+        × AskedInTime T.last T.answers deadline (length faults) clock.old clock.new)
         (λ late. (faults : List TryFault) × WritersRefused C.CargoRule cell (view pass.old) (late.fault ∷ faults) (view pass.new)
-            × OnlyLooked (view pass.old) cell (view pass.new)
-            × AskedTooLate T.last T.answers deadline (length faults + 1) clock.old clock.new late.now) }
+        × OnlyLooked (view pass.old) cell (view pass.new)
+        × AskedTooLate T.last T.answers deadline (length faults + 1) clock.old clock.new late.now) }
 {
     'trying: for _ in rt.forever() {
         match announce(hall, pass, cell) {
@@ -133,10 +129,10 @@ fn finish_until<R: Wait, C: Cargo, T: Clock>(
     ensures elsewhere { ElsewhereSame (view pass.old) (view pass.new) announced.lock }
     ensures step { MatchResult result
         (λ _. (misses : List TryFault) × HoldsAtLast C.CargoRule (view pass.old) announced.lock misses (view pass.new)
-            × AskedInTime T.last T.answers deadline (length misses) clock.old clock.new)
+        × AskedInTime T.last T.answers deadline (length misses) clock.old clock.new)
         (λ back. (misses : List TryFault) × ReadersMet C.CargoRule announced.lock (view pass.old) (back.1.fault ∷ misses) (view pass.new)
-            × OnlyLooked (view pass.old) announced.lock (view pass.new)
-            × AskedTooLate T.last T.answers deadline (length misses + 1) clock.old clock.new back.1.now) }
+        × OnlyLooked (view pass.old) announced.lock (view pass.new)
+        × AskedTooLate T.last T.answers deadline (length misses + 1) clock.old clock.new back.1.now) }
 {
     let mut waiting = announced;
     'trying: for _ in rt.forever() {
@@ -179,7 +175,7 @@ pub fn wlock_until<R: Wait, C: Cargo, T: Clock>(
     ensures elsewhere { ElsewhereSame (view pass.old) (view pass.new) cell }
     ensures step { MatchResult result
         (λ _. (faults : List TryFault) × (misses : List TryFault) × WritesAtLast C.CargoRule (view pass.old) cell faults misses (view pass.new)
-            × AskedInTime T.last T.answers deadline (length faults + length misses) clock.old clock.new)
+        × AskedInTime T.last T.answers deadline (length faults + length misses) clock.old clock.new)
         (λ late. GaveUpLate C.CargoRule T.last T.answers deadline cell (view pass.old) (view pass.new) clock.old clock.new late.fault late.now) }
     ensures steps { MatchResult result (λ _. AddsSteps (IsPatientTry (view pass.old) cell) (view pass.old) (view pass.new)) (λ _. AddsSteps (IsTry (view pass.old) cell) (view pass.old) (view pass.new)) }
 {

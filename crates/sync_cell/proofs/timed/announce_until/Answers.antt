@@ -1,6 +1,5 @@
-use Rattle.std.proofs.Common.{◌∷◌, refl, sym, ap, subst}
+use Rattle.std.proofs.Common.{◌∷◌, refl, sym, subst}
 use Rattle.hall.specs.Passes.{view}
-use Rattle.hall.specs.Views.{mode_of}
 use Rattle.shared_mutex.specs.Acquiring.{RefusesAnnouncing}
 use Rattle.sync_cell.specs.TryLaws.{writers_looked}
 use Rattle.sync_cell.proofs.Acquired.{still_elsewhere}

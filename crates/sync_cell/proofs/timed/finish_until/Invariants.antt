@@ -1,4 +1,4 @@
-use Rattle.std.proofs.Common.{◌≡◌, true, false}
+use Rattle.std.proofs.Common.{◌≡◌, false}
 use Rattle.hall.specs.declared.view.Standing.TheVariants.{Announcing}
 use Rattle.hall.specs.Passes.{view, IsPassOf, shape_of}
 use Rattle.hall.specs.Views.{standing}

@@ -1,4 +1,4 @@
-use Rattle.std.proofs.Common.{◌≡◌, ap, ◌∙◌, ◌∷◌, subst, true, false}
+use Rattle.std.proofs.Common.{◌≡◌, ◌∙◌, ◌∷◌, subst, false}
 use Rattle.hall.specs.declared.guards.Announced.{Announced}
 use Rattle.hall.specs.declared.guards.TryFault.TheVariants.{Busy}
 use Rattle.hall.specs.declared.view.Standing.TheVariants.{Announcing}

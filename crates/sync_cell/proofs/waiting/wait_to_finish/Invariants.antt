@@ -1,4 +1,4 @@
-use Rattle.std.proofs.Common.{◌≡◌, List, true, false}
+use Rattle.std.proofs.Common.{◌≡◌, List, false}
 use Rattle.hall.specs.declared.guards.TryFault.{TryFault}
 use Rattle.hall.specs.declared.view.Standing.TheVariants.{Announcing}
 use Rattle.hall.specs.Passes.{view, IsPassOf, shape_of}

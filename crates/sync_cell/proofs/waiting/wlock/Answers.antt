@@ -1,4 +1,4 @@
-use Rattle.std.proofs.Common.{ap, subst}
+use Rattle.std.proofs.Common.{subst}
 use Rattle.hall.specs.declared.guards.Announced.{Announced}
 use Rattle.hall.specs.Passes.{view, shape_of}
 use Rattle.sync_cell.specs.Tries.{HoldsAtLast}
