@@ -1,0 +1,4 @@
+pub mod Cells
+pub mod Counting
+pub mod Pairs
+pub mod Replies

@@ -1,0 +1,88 @@
+-- What one query leaves of the pass that asks it.
+use Rattle.std.specs.Prelude.{◌≡◌, ℕ, ◌+◌, ◌-◌, ◌≤◌, Bool, true, false, [], ◌∷◌, ◌++◌, length, MatchBool, Some}
+use Rattle.hall.specs.declared.view.View.{View}
+use Rattle.query_rules.specs.declared.query.Query.{Query}
+use Rattle.query_rules.specs.declared.query.Query.TheVariants.{Get, Len, Put, Del, Add, Cas, PutLen, Move, Both, TryGet, TryPut, GetBy, PutBy, Give, Take, Audit}
+use Rattle.query_rules.specs.declared.query.LedgerAct.{LedgerAct}
+use Rattle.query_rules.specs.declared.query.Said.{Said}
+use Rattle.query_rules.specs.declared.query.Reply.{Reply}
+use Rattle.query_rules.specs.declared.query.Reply.TheVariants.{Placed, Busy, Late, Job}
+use Rattle.query_rules.specs.Maps.{is_write}
+use Rattle.query_rules.specs.Ledger.{act_of, result_of}
+use Rattle.query_rules.specs.History.{place_of}
+use Rattle.query_log.specs.Ledgers.{LedgerView, accounts_in, entry_of}
+use Rattle.map_cargo.specs.declared.entry.Entry.{Entry}
+use Rattle.map_cargo.specs.declared.entry.Told.TheVariants.{Wrote, Read}
+use Rattle.map_cargo.specs.declared.entry.Part.{Part}
+
+-- the queries that may change a map
+abbrev pub may_write : Query → Bool
+may_write (Get cell key) = false
+may_write (Len cell) = false
+may_write (Put cell key value) = true
+may_write (Del cell key) = true
+may_write (Add cell key delta) = true
+may_write (Cas cell key old new) = true
+may_write (PutLen cell key value) = true
+may_write (Move from to key n) = true
+may_write (Both first second key) = false
+may_write (TryGet cell key) = false
+may_write (TryPut cell key value) = true
+may_write (GetBy cell key deadline) = false
+may_write (PutBy cell key value deadline) = true
+may_write (Give key n) = false
+may_write (Take key n) = false
+may_write Audit = false
+
+-- a reply that is a write
+abbrev pub tells_write : Reply → Bool
+tells_write (Placed place said) = is_write said
+tells_write Busy = false
+tells_write (Late now) = false
+tells_write (Job at result) = false
+
+-- a reply that was given under a lock, or by the ledger: nothing was in the way
+abbrev pub is_granted : Reply → Bool
+is_granted (Placed place said) = true
+is_granted Busy = false
+is_granted (Late now) = false
+is_granted (Job at result) = true
+
+-- a reply of the ledger
+abbrev pub is_job : Reply → Bool
+is_job (Placed place said) = false
+is_job Busy = false
+is_job (Late now) = false
+is_job (Job at result) = true
+
+-- a reply's own entry
+abbrev pub entry_for : ℕ → ℕ → Query → Said → Entry
+entry_for number index q said = record { caller = number; index = index; query = q; said = said }
+
+-- What a pass's part has more after a reply: a placed one stands behind all that the pass has seen, a refused one is told without a place, and a job's is the ledger's alone
+abbrev pub AddsReply : ℕ → ℕ → Query → Reply → Part → Part → Type 0
+AddsReply number index q (Placed place said) p r = (n : ℕ) × (place ≡ place_of n said) × (p.seen ≤ n)
+    × MatchBool (is_write said)
+    ((r.seen ≡ n + 1) × (r.told ≡ Wrote n (entry_for number index q said) ∷ p.told))
+    ((r.seen ≡ n) × (r.told ≡ Read n (entry_for number index q said) ∷ p.told))
+AddsReply number index q Busy p r = ⊥
+AddsReply number index q (Late now) p r = ⊥
+AddsReply number index q (Job at result) p r = (r.told ≡ p.told) × (r.seen ≡ p.seen)
+
+-- what a reply leaves of the ledger: a job's is the next entry of its history, with its act's result on the accounts so far; the others leave it
+abbrev pub AddsJob : ℕ → ℕ → Query → Reply → LedgerView → LedgerView → Type 0
+AddsJob number index q (Placed place said) old new = new ≡ old
+AddsJob number index q Busy old new = new ≡ old
+AddsJob number index q (Late now) old new = new ≡ old
+AddsJob number index q (Job at result) old new =
+    (act : LedgerAct)
+    × (act_of q ≡ Some act)
+    × (at ≡ length old.entries)
+    × (result ≡ result_of old.rows (accounts_in old) act)
+    × (new ≡ record { rows = old.rows; room = old.room - 1; entries = old.entries ++ entry_of (record { caller = number; index = index; act = act }) result ∷ [] })
+
+-- the numbers of a pass stay
+pub record KeepsNumbers (v w : View Part) : Type 0 where
+  pub number : w.number ≡ v.number
+  pub span : w.span ≡ v.span
+  pub taken : w.taken ≡ v.taken
