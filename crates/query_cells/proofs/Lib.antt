@@ -1,4 +1,5 @@
 pub mod Cells
 pub mod Counting
+pub mod Moving
 pub mod Pairs
 pub mod Replies
