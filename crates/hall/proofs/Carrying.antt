@@ -77,6 +77,9 @@ module _ {C P : Type 0} (g : Ghosts C P) (plan : Plan C) (s : State (Unit {0}) (
       owned = λ j u there e has. ⊎_elim
           (λ t. let F : View P → Type 0 = λ z. Has z.steps e → 1 ≤ owns e.number z in subst F t.1 (⊎_elim (λ is. subst (λ (z : StepEntry). 1 ≤ owns z.number after) (sym is) (omega (arith, same-refl v.number))) (λ old. h.trailed.owned id v at e old)) has)
           (λ t. h.trailed.owned j u t.1 e has) (at_set s.views id j after u there);
+      trodden = λ j u there m has. ⊎_elim
+          (λ t. let F : View P → Type 0 = λ z. Has z.trail m → (0 < z.span) × (1 ≤ owns m.number z) in subst F t.1 (h.trailed.trodden id v at m) has)
+          (λ t. h.trailed.trodden j u t.1 m has) (at_set s.views id j after u there);
       newest = λ j u there. ⊎_elim (λ t. let F : View P → Type 0 = λ z. Heads z.number z.steps in subst F t.1 refl) (λ t. h.trailed.newest j u t.1) (at_set s.views id j after u there);
       counted = λ j u there e has lock below place is_hold lost count. ⊎_elim
           (λ t. let F : View P → Type 0 = λ z. Has z.steps e → Others (set s.views id after) lock e.number in

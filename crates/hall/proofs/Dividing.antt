@@ -127,6 +127,12 @@ module _ {C P : Type 0} (g : Ghosts C P) (plan : Plan C) (s : State (Unit {0}) (
             (λ t. h.trailed.owned j u t.1 e has) (at_set s.views id j left u there))
             (λ is. let F : View P → Type 0 = λ z. Has z.steps e → 1 ≤ owns e.number z in subst F is (λ bad. absurd bad) has)
             (at_snoc (set s.views id left) right u j there);
+        trodden = λ j u there m has. ⊎_elim
+            (λ there. ⊎_elim
+            (λ t. let F : View P → Type 0 = λ z. Has z.trail m → (0 < z.span) × (1 ≤ owns m.number z) in subst F t.1 (λ mine. (omega arith, (h.trailed.trodden id v at m mine).1)) has)
+            (λ t. h.trailed.trodden j u t.1 m has) (at_set s.views id j left u there))
+            (λ is. let F : View P → Type 0 = λ z. Has z.trail m → (0 < z.span) × (1 ≤ owns m.number z) in subst F is (λ bad. absurd bad) has)
+            (at_snoc (set s.views id left) right u j there);
         newest = λ j u there. ⊎_elim
             (λ there. ⊎_elim (λ t. let F : View P → Type 0 = λ z. Heads z.number z.steps in subst F t.1 refl) (λ t. h.trailed.newest j u t.1) (at_set s.views id j left u there))
             (λ is. let F : View P → Type 0 = λ z. Heads z.number z.steps in subst F is tt)
@@ -270,6 +276,9 @@ module _ {C P : Type 0} (g : Ghosts C P) (plan : Plan C) (s : State (Unit {0}) (
           (λ e has. ⊎_elim (λ is. subst (λ (z : StepEntry). 1 ≤ owns z.number both) (sym is) (omega (arith, same-refl v.number)))
           (λ old. owned_joined e.number (⊎_elim (λ o. inl (h.trailed.owned other w there e o)) (λ o. inr (h.trailed.owned id v at e o)) (Has-split w.steps v.steps e old))) has)
           (λ e has. absurd has) (λ j u e _ _. h.trailed.owned j u e);
+      trodden = cases (λ _ u. (m : Footprint) → Has u.trail m → (0 < u.span) × (1 ≤ owns m.number u))
+          (λ m has. (lives, owned_joined m.number (⊎_elim (λ o. inl (h.trailed.trodden other w there m o).1) (λ o. inr (h.trailed.trodden id v at m o).1) (Has-split w.trail v.trail m has))))
+          (λ m has. absurd has) (λ j u e _ _. h.trailed.trodden j u e);
       newest = cases (λ _ u. Heads u.number u.steps) refl tt (λ j u e _ _. h.trailed.newest j u e);
       remembered = cases (λ _ u. (lock x : ℕ) → lock < plan.shape.locks → last_read (plan.shape.slots + lock) u.number u.steps ≡ Some x → (get_or s.words (plan.shape.slots + lock) 0 ≡ x) ⊎ Others joined lock u.number)
           (λ k x _ bad. let nothing : None ≡ Some x = ap (λ b. cond b None None) (sym (eq-eqb v.number v.number refl)) ∙ bad in absurd (cc)) (λ k x _ bad. absurd (cc)) (λ j u e _ _ k x below is. ⊎_elim inl (λ o. inr (others_joined k u.number o)) (h.trailed.remembered j u e k x below is));

@@ -18,6 +18,7 @@ use Rattle.hall.specs.Numbers.{owns}
 use Rattle.hall.specs.declared.view.Kind.TheVariants.{Hold}
 use Rattle.hall.specs.Trails.{last_read, Heads, Reasoned, Others, StrongOthers}
 use Rattle.hall.specs.declared.view.StepEntry.{StepEntry}
+use Rattle.hall.specs.declared.view.Footprint.{Footprint}
 use Rattle.hall.specs.Rule.{Holds, Formed, cargo_seat, first_view}
 use Rattle.hall.proofs.Locking.{same_tally}
 use Rattle.hall.proofs.Dividing.{away_in, none_pending}
@@ -79,6 +80,7 @@ module _ {C P : Type 0} (g : Ghosts C P) (plan : Plan C) where
       strongly = only_one (λ u. (lock : ℕ) → is_strong (standing u lock) ≡ true → Has u.trail (footprint u.number lock true)) v (λ k bad. let there : is_strong (standing v k) ≡ false = ap is_strong (off k) in absurd (cc));
       remembered = only_one (λ u. (lock w : ℕ) → lock < plan.shape.locks → last_read (plan.shape.slots + lock) u.number u.steps ≡ Some w → (get_or (zeros n) (plan.shape.slots + lock) 0 ≡ w) ⊎ Others (v ∷ []) lock u.number) v (λ k w below bad. absurd (cc));
       owned = only_one (λ u. (e : StepEntry) → Has u.steps e → 1 ≤ owns e.number u) v (λ e has. absurd has);
+      trodden = only_one (λ u. (m : Footprint) → Has u.trail m → (0 < u.span) × (1 ≤ owns m.number u)) v (λ m has. absurd has);
       newest = only_one (λ u. Heads u.number u.steps) v tt;
       counted = only_one (λ u. (e : StepEntry) → Has u.steps e → (k : ℕ) → k < plan.shape.locks → e.place ≡ plan.shape.slots + k → e.kind ≡ Hold → e.won ≡ false → units_of e.word ≢ 0 → Others (v ∷ []) k e.number) v (λ e has. absurd has);
       raced = only_one (λ u. (k : ℕ) → k < plan.shape.locks → Reasoned (Others (v ∷ []) k) (plan.shape.slots + k) u.steps) v (λ k below. tt);

@@ -34,6 +34,9 @@ false_true e = cc
 pub marked_head : (n lock : ℕ) (x y : Standing) (old : List Footprint) → is_away x && is_away y ≡ false → Has (footprints_left n lock x y ++ old) (footprint n lock (is_strong x || is_strong y))
 marked_head n lock x y old e = subst (λ (b : Bool). Has (cond b [] (footprint n lock (is_strong x || is_strong y) ∷ []) ++ old) (footprint n lock (is_strong x || is_strong y))) (sym e) (inl refl)
 
+left_or_old : (b : Bool) (f m : Footprint) (old : List Footprint) → Has (cond b [] (f ∷ []) ++ old) m → (m ≡ f) ⊎ Has old m
+left_or_old b f m old has = elim b as (λ z. Has (cond z [] (f ∷ []) ++ old) m → (m ≡ f) ⊎ Has old m) [ true ↦ λ h. inr h | false ↦ λ h. h ] has
+
 pub and_right : (a b : Bool) → b ≡ false → a && b ≡ false
 and_right a b e = elim a as (λ z. z && b ≡ false) [ true ↦ e | false ↦ refl ]
 
@@ -91,6 +94,13 @@ module _ {P : Type 0} (sh : Shape) (words : List ℕ) (views : List (View P)) (i
       (subst (λ (b : Bool). Has after.trail (footprint v.number lock b)) (or_right (is_strong (standing v lock)) (is_strong y) y_strong)
       (marked_head v.number lock (standing v lock) y v.trail (and_right _ _ (strong_is_there y y_strong)))))
       (λ ne. grows _ (tr.strongly id v at k (ap is_strong (sym (elsewhere k ne)) ∙ h)))
+
+  trodden_now : (m : Footprint) → Has after.trail m → (0 < v.span) × (1 ≤ owns m.number after)
+  trodden_now m has = (
+    lives,
+    ⊎_elim (λ is. subst (λ (z : Footprint). 1 ≤ owns z.number after) (sym is) (omega (arith, same-refl v.number))) (λ old. (tr.trodden id v at m old).1)
+        (left_or_old (is_away (standing v lock) && is_away y) (footprint v.number lock (is_strong (standing v lock) || is_strong y)) m v.trail has),
+  )
 
   -- what another pass remembers
   abbrev Recalls : List ℕ → List (View P) → ℕ → ℕ → ℕ → Type 0
@@ -159,6 +169,9 @@ module _ {P : Type 0} (sh : Shape) (words : List ℕ) (views : List (View P)) (i
         (λ t. let F : View P → Type 0 = λ z. Has z.steps e → 1 ≤ owns e.number z in
         subst F t.1 (⊎_elim (λ is. subst (λ (z : StepEntry). 1 ≤ owns z.number after) (sym is) (omega (arith, same-refl v.number))) (λ old. tr.owned id v at e old)) has)
         (λ t. tr.owned j u t.1 e has) (at_set views id j after u there);
+    trodden = λ j u there m has. ⊎_elim
+        (λ t. let F : View P → Type 0 = λ z. Has z.trail m → (0 < z.span) × (1 ≤ owns m.number z) in subst F t.1 (trodden_now m) has)
+        (λ t. tr.trodden j u t.1 m has) (at_set views id j after u there);
     newest = λ j u there. ⊎_elim (λ t. let F : View P → Type 0 = λ z. Heads z.number z.steps in subst F t.1 refl) (λ t. tr.newest j u t.1) (at_set views id j after u there);
     counted = λ j u there e has k below place is_hold lost count. ⊎_elim
         (λ t. let F : View P → Type 0 = λ z. Has z.steps e → Others (set views id after) k e.number in

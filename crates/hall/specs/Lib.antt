@@ -8,6 +8,7 @@ pub mod Partings
 pub mod Passes
 pub mod Plays
 pub mod Reasons
+pub mod Refusals
 pub mod Rule
 pub mod ShownLaws
 pub mod Shows

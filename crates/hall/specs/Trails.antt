@@ -52,6 +52,8 @@ module _ {P : Type 0} where
     pub strongly : (j : ℕ) (v : View P) → get_elem? views j ≡ some v → (lock : ℕ) → is_strong (standing v lock) ≡ true → Has v.trail (footprint v.number lock true)
     -- a pass made its steps under numbers of its own
     pub owned : (j : ℕ) (v : View P) → get_elem? views j ≡ some v → (e : StepEntry) → Has v.steps e → 1 ≤ owns e.number v
+    -- and its trail has numbers of its own alone; a pass that was taken in has no trail
+    pub trodden : (j : ℕ) (v : View P) → get_elem? views j ≡ some v → (m : Footprint) → Has v.trail m → (0 < v.span) × (1 ≤ owns m.number v)
     pub newest : (j : ℕ) (v : View P) → get_elem? views j ≡ some v → Heads v.number v.steps
     -- a word that was read is still there, or another number has been at its lock
     pub remembered : (j : ℕ) (v : View P) → get_elem? views j ≡ some v → (lock w : ℕ) → lock < sh.locks → last_read (sh.slots + lock) v.number v.steps ≡ Some w → (slice_index words (sh.slots + lock) ≡ w) ⊎ Others views lock v.number

@@ -17,7 +17,7 @@ use Rattle.query_rules.specs.Words.{number_of}
 use Rattle.query_rules.specs.Verbs.{verb_word, verb_named, verb_of, numbers_of, arity, query_of, query_words}
 use Rattle.query_rules.specs.Grammar.{numbers_in}
 use Rattle.query_rules.specs.Log.{found_words, said_words, ledger_words, reply_words, place_words, answer_words}
-use Rattle.query_text.proofs.Spelled.{number_again}
+use Rattle.query_rules.proofs.Spelled.{number_again}
 use Rattle.log_reader.specs.declared.answered.Answered.{Answered}
 use Rattle.log_reader.specs.declared.read_words.Question.{Question}
 use Rattle.log_reader.specs.Listing.{IsNumber, IsFound, IsSaid, IsResult, IsReply, IsQuery, IsWritable, answered_words}

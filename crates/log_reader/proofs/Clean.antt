@@ -11,7 +11,7 @@ use Rattle.std.proofs.lemmas.Bool.{and_parts}
 use Rattle.query_rules.specs.Words.{words_of, lines_of, line_of, without_empty_end}
 use Rattle.query_text.specs.Spaced.{spaced}
 use Rattle.log_reader.proofs.WideNumbers.{wide_digits}
-use Rattle.query_text.proofs.Spelled.{Lacks, cut_word, words_again}
+use Rattle.query_rules.proofs.Spelled.{Lacks, cut_word, words_again}
 
 own : IsNumeralModel (λ ds. all_ascii_digits ds ≡ true) (digits_value 10)
 own = numerals_by_value _ tells_all_ascii_digits

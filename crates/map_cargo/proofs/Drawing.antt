@@ -65,7 +65,7 @@ draws opening c id place writes e f q is one many some' near holds said writes' 
             logged = λ w x has j small less. dite (ℕ_discrete n w)
                 (λ same. let none : stored part w ≡ 0 = ap (λ b. cond b 0 8) (eq-eqb n w same) in absurd (omega arith))
                 (λ ne. ⊎_elim
-                (λ is. absurd (ne (ap (λ (t : Told). elim t [ Wrote a b ↦ a | Read a b ↦ n ]) (sym is))))
+                (λ is. absurd (ne (ap (λ (t : Told). elim t [ Wrote a b ↦ a | _ ↦ n ]) (sym is))))
                 (λ old. log w j ∙ k.logged w x old j small (subst (λ (z : ℕ). j < z) (sym (all_stored q.part w rested)) small)) has);
             known = λ cell low has.
                 let t = k.known cell low has in (
@@ -176,7 +176,7 @@ places opening c id place writes e f q is one limit near holds said reads' ws qs
         told = λ t has. ⊎_elim
             (λ is. subst (Stands opening c.rows E) (sym is) record { newer = []; older = E; stands = refl; number = refl; said = sym (reply_same c.rows (plain_of opening q.part) M e.query agree) ∙ said; reads = reads' })
             (k.told t) has;
-        logged = λ w x has j small less. ⊎_elim (λ is. absurd (let F : Told → Type 0 = λ t. elim t [ Wrote a b ↦ ⊥ | Read a b ↦ Unit {0} ] in subst F (sym is) tt)) (λ old. k.logged w x old j small less) has;
+        logged = λ w x has j small less. ⊎_elim (λ is. absurd (let F : Told → Type 0 = λ t. elim t [ Wrote a b ↦ ⊥ | _ ↦ Unit {0} ] in subst F (sym is) tt)) (λ old. k.logged w x old j small less) has;
         known = k.known;
       } (λ w. omega arith)),
     )

@@ -18,13 +18,14 @@ use Rattle.query_rules.specs.History.{maps_after, replay, maps_at, StandsAt, IsL
 use Rattle.map_cargo.specs.declared.size.MapCargo.{MapCargo}
 use Rattle.map_cargo.specs.declared.entry.Entry.{Entry}
 use Rattle.map_cargo.specs.declared.entry.Told.{Told}
-use Rattle.map_cargo.specs.declared.entry.Told.TheVariants.{Wrote, Read}
+use Rattle.map_cargo.specs.declared.entry.Told.TheVariants.{Wrote, Read, Refused}
 use Rattle.map_cargo.specs.declared.entry.Part.{Part}
 use Rattle.map_cargo.specs.Entries.{queries, as_reply}
 use Rattle.map_cargo.specs.History.{Seat, Stands, WrittenAs, ReadAfter, OneHistory, IsRested, is_wrote, first_part}
 use Rattle.map_cargo.specs.Laws.{all_stored}
 use Rattle.map_cargo.specs.Steps.{Ended}
 use Rattle.map_cargo.proofs.Lists.{has_at}
+use Rattle.map_cargo.proofs.Telling.{refusal_stands, refusal_mark}
 
 nothing : {A : Type 0} (f : A → ℕ) (l : List A) → ((j : ℕ) (u : A) → get_elem? l j ≡ some u → f u ≡ 0) → total f l ≡ 0
 nothing f [] none = refl
@@ -114,6 +115,7 @@ module _ (opening : Maps) where
     stands_at : (t : Told) → Stands opening rows entries t → StandsAt rows opening (in_order entries) (as_reply t)
     stands_at (Wrote w e) s = subst (λ n. StandsAt rows opening (in_order entries) (e.query, Placed n e.said)) (sym (ap (λ b. cond b (2 * w + 1) (2 * w)) s.writes)) (write_stands w e s)
     stands_at (Read w e) s = subst (λ n. StandsAt rows opening (in_order entries) (e.query, Placed n e.said)) (sym (ap (λ b. cond b (2 * w + 1) (2 * w)) s.reads)) (read_stands w e s)
+    stands_at (Refused caller index query reply) s = refusal_stands rows opening (in_order entries) query reply s
 
     all_stand : (told : List Told) → ((t : Told) → Has told t → Stands opening rows entries t) → AllByRecursion (StandsAt rows opening (in_order entries)) (map as_reply told)
     all_stand [] each = tt
@@ -125,6 +127,7 @@ module _ (opening : Maps) where
         (λ same. ap (λ b. cond {A = ℕ} b 1 0) (eq-eqb (2 * n + 1) (2 * w + 1) (omega arith) ∙ sym (eq-eqb n w same)))
         (λ ne. ap (λ b. cond {A = ℕ} b 1 0) (ne_eqb (2 * n + 1) (2 * w + 1) (λ bad. ne (omega arith)) ∙ sym (ne_eqb n w ne)))
     mark w (Read n e) s = ap (λ b. cond {A = ℕ} (cond b (2 * n + 1) (2 * n) == 2 * w + 1) 1 0) s.reads ∙ ap (λ b. cond {A = ℕ} b 1 0) (ne_eqb (2 * n) (2 * w + 1) (λ bad. omega arith))
+    mark w (Refused caller index query reply) s = refusal_mark w query reply s
 
     counted : (w : ℕ) (told : List Told) → ((t : Told) → Has told t → Stands opening rows entries t) → count_by (is_write_at w) (map as_reply told) ≡ total (is_wrote w) told
     counted w [] each = refl

@@ -3,4 +3,5 @@ mod Notes
 mod Meaning
 mod Lists
 mod Drawing
+mod Telling
 mod Ended

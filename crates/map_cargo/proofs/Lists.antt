@@ -14,7 +14,7 @@ use Rattle.query_rules.specs.declared.query.Said.TheVariants.{Count, Same, Pair}
 use Rattle.query_rules.specs.Maps.{PlainMap, Maps, reply_of, written, get_says, put_says, del_says, add_says, cas_says, put_len_says, move_says, with_value, without, less, amount_at, is_full}
 use Rattle.map_cargo.specs.declared.entry.Entry.{Entry}
 use Rattle.map_cargo.specs.declared.entry.Told.{Told}
-use Rattle.map_cargo.specs.declared.entry.Told.TheVariants.{Wrote, Read}
+use Rattle.map_cargo.specs.declared.entry.Told.TheVariants.{Wrote, Read, Refused}
 use Rattle.map_cargo.specs.Cells.{lookup}
 use Rattle.map_cargo.specs.Entries.{named_cells, spoken_cells}
 use Rattle.map_cargo.specs.History.{Seat, Stands, WrittenAs, is_wrote, Each}
@@ -24,6 +24,7 @@ module _ (opening : Maps) where
   pub grows : (rows : ℕ) (entries : List Entry) (x : Entry) (t : Told) → Stands opening rows entries t → Stands opening rows (x ∷ entries) t
   grows rows entries x (Wrote w e) s = record { newer = x ∷ s.newer; older = s.older; stands = ap (λ l. x ∷ l) s.stands; number = s.number; said = s.said; writes = s.writes }
   grows rows entries x (Read w e) s = record { newer = x ∷ s.newer; older = s.older; stands = ap (λ l. x ∷ l) s.stands; number = s.number; said = s.said; reads = s.reads }
+  grows rows entries x (Refused caller index query reply) s = s
 
 module _ {opening : Maps} {rows : ℕ} {entries : List Entry} {w : ℕ} {e : Entry} (s : WrittenAs opening rows entries w e) where
   place : length entries ≡ length s.newer + (w + 1)
@@ -52,6 +53,7 @@ module _ (opening : Maps) (rows : ℕ) (entries : List Entry) (w : ℕ) where
   wrote_below (Wrote n e) s pos = dite (ℕ_discrete n w) (λ same. subst (λ (z : ℕ). z < length entries) same (below s))
       (λ ne. let none : is_wrote w (Wrote n e) ≡ 0 = ap (λ b. cond b 1 0) (ne_eqb n w ne) in absurd (omega arith))
   wrote_below (Read n e) s pos = absurd (omega arith)
+  wrote_below (Refused caller index query reply) s pos = absurd (omega arith)
 
   -- nobody has a write that isn't drawn yet
   pub none_yet : (qs : List Seat) → Each (λ q. (t : Told) → Has q.part.told t → Stands opening rows entries t) qs → length entries ≤ w → total (λ (q : Seat). total (is_wrote w) q.part.told) qs ≡ 0

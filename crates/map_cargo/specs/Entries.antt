@@ -7,7 +7,7 @@ use Rattle.query_rules.specs.declared.query.Reply.TheVariants.{Placed}
 use Rattle.query_rules.specs.History.{place_of}
 use Rattle.map_cargo.specs.declared.entry.Entry.{Entry}
 use Rattle.map_cargo.specs.declared.entry.Told.{Told}
-use Rattle.map_cargo.specs.declared.entry.Told.TheVariants.{Wrote, Read}
+use Rattle.map_cargo.specs.declared.entry.Told.TheVariants.{Wrote, Read, Refused}
 
 -- the cells that a query names
 abbrev pub named_cells : Query → List ℕ
@@ -73,7 +73,8 @@ log_words e = (e.caller + 1) ∷ e.index ∷ query_words e.query
 abbrev pub queries : List Entry → List Query
 queries = map (λ (e : Entry). e.query)
 
--- a reply with its place, as a history has it
+-- a reply with its place, as a history has it, or one that has none
 abbrev pub as_reply : Told → Query × Reply
 as_reply (Wrote w e) = (e.query, Placed (place_of w e.said) e.said)
 as_reply (Read w e) = (e.query, Placed (place_of w e.said) e.said)
+as_reply (Refused caller index query reply) = (query, reply)

@@ -7,12 +7,14 @@ use Rattle.lock_model.specs.Locks.{Has}
 use Rattle.lock_model.specs.declared.model.Mode.{Mode}
 use Rattle.hall.specs.Cargo.{CargoSeat, exclusive_mode}
 use Rattle.query_rules.specs.declared.query.Query.{Query}
+use Rattle.query_rules.specs.declared.query.Reply.{Reply}
+use Rattle.query_rules.specs.declared.query.Reply.TheVariants.{Placed, Busy, Late, Job}
 use Rattle.query_rules.specs.Maps.{Maps, reply_of, is_write}
 use Rattle.query_rules.specs.History.{maps_after}
 use Rattle.map_cargo.specs.declared.size.MapCargo.{MapCargo}
 use Rattle.map_cargo.specs.declared.entry.Entry.{Entry}
 use Rattle.map_cargo.specs.declared.entry.Told.{Told}
-use Rattle.map_cargo.specs.declared.entry.Told.TheVariants.{Wrote, Read}
+use Rattle.map_cargo.specs.declared.entry.Told.TheVariants.{Wrote, Read, Refused}
 use Rattle.map_cargo.specs.declared.entry.Part.{Part}
 use Rattle.map_cargo.specs.Cells.{number_place, log_place, word_count, cell_words, Means, lookup}
 use Rattle.map_cargo.specs.Entries.{queries, log_words}
@@ -30,6 +32,14 @@ Each F qs = (j : ℕ) (q : Seat) → get_elem? qs j ≡ some q → F q
 abbrev pub is_wrote : ℕ → Told → ℕ
 is_wrote w (Wrote n e) = cond (eqb n w) 1 0
 is_wrote w (Read n e) = 0
+is_wrote w (Refused caller index query reply) = 0
+
+-- a reply of a lock that refused: it has no place in a history
+abbrev pub IsRefusal : Reply → Type 0
+IsRefusal (Placed place said) = ⊥
+IsRefusal Busy = Unit {0}
+IsRefusal (Late now) = Unit {0}
+IsRefusal (Job at result) = ⊥
 
 -- how many words of log row w are stored, where the pass drew it
 abbrev pub stored : Part → ℕ → ℕ
@@ -80,10 +90,11 @@ module _ (opening : Maps) where
     pub said : reply_of rows (maps_after opening (queries older)) e.query ≡ Some e.said
     pub reads : is_write e.said ≡ false
 
-  -- a reply is the plain one on the maps of its number
+  -- a reply is the plain one on the maps of its number, or is one that has no place
   abbrev pub Stands : ℕ → List Entry → Told → Type 0
   Stands rows entries (Wrote w e) = WrittenAs rows entries w e
   Stands rows entries (Read w e) = ReadAfter rows entries w e
+  Stands rows entries (Refused caller index query reply) = IsRefusal reply
 
   -- the plain maps of the cells that a pass holds, as it knows them
   abbrev pub plain_of : Part → Maps

@@ -3,4 +3,5 @@ pub mod Entries
 pub mod History
 pub mod Laws
 pub mod Steps
+pub mod Licences
 pub mod Gaining

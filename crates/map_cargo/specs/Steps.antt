@@ -12,7 +12,7 @@ use Rattle.query_rules.specs.Maps.{Maps, reply_of, is_write, written}
 use Rattle.map_cargo.specs.declared.size.MapCargo.{MapCargo}
 use Rattle.map_cargo.specs.declared.entry.Entry.{Entry}
 use Rattle.map_cargo.specs.declared.entry.Told.{Told}
-use Rattle.map_cargo.specs.declared.entry.Told.TheVariants.{Wrote, Read}
+use Rattle.map_cargo.specs.declared.entry.Told.TheVariants.{Wrote, Read, Refused}
 use Rattle.map_cargo.specs.declared.entry.Part.{Part}
 use Rattle.map_cargo.specs.Cells.{number_place, log_place, word_count}
 use Rattle.map_cargo.specs.Entries.{named_cells, spoken_cells, log_words}
@@ -59,6 +59,10 @@ logged p k = record { words = p.words; writes = p.writes; seen = p.seen; told = 
 -- the part after a read was placed behind so many writes
 abbrev pub placed : Part → ℕ → Entry → Part
 placed p number e = record { words = p.words; writes = p.writes; seen = number; told = Read number e ∷ p.told; row = p.row; stored = p.stored }
+
+-- the part after a reply was told that has no place
+abbrev pub told_too : Part → Told → Part
+told_too p t = record { words = p.words; writes = p.writes; seen = p.seen; told = t ∷ p.told; row = p.row; stored = p.stored }
 
 -- a mode was lost: the pass knows what it knew
 pub record Left (v w : View Part) : Type 0 where

@@ -1,5 +1,5 @@
 //! The entries of the history, and what a pass knows of it.
-use query_rules::{Query, Said};
+use query_rules::{Query, Reply, Said};
 use std::collections::LinkedList;
 
 /// A query of a caller, and what was said to it.
@@ -13,13 +13,20 @@ pub struct Entry {
     pub said: Said,
 }
 
-/// A reply, with a number of writes. No value of this type is made by the code: it is for the proofs.
+/// A reply, with a number of writes where it has one. No value of this type is made by the code: it is for the proofs.
 #[derive(Clone, Copy)]
 pub enum Told {
     /// This write has the number.
     Wrote { number: u64, entry: Entry },
     /// So many writes were drawn before this read.
     Read { number: u64, entry: Entry },
+    /// The cell's lock refused it, so that it has no place among the writes.
+    Refused {
+        caller: u64,
+        index: u64,
+        query: Query,
+        reply: Reply,
+    },
 }
 
 /// What a pass knows of the maps. No value of this type is made by the code: it is for the proofs.

@@ -3,7 +3,10 @@ ghost use Rattle.std.specs.Prelude.{◌≡◌, ◌≢◌, ◌<◌, ◌≤◌, �
 ghost use Rattle.hall.specs.Passes.{view, IsPassOf, cargo_of, shape_of};
 ghost use Rattle.hall.specs.Views.{standing};
 ghost use Rattle.hall.specs.declared.view.Standing.TheVariants.{Away, Inline, Exclusive};
+ghost use Rattle.query_rules.specs.declared.query.Query.TheVariants.{TryGet};
+ghost use Rattle.query_rules.specs.declared.query.Reply.TheVariants.{Busy};
 ghost use Rattle.query_rules.specs.Maps.{no_entries};
+ghost use Rattle.map_cargo.specs.declared.entry.Told.TheVariants as told;
 ghost use Rattle.map_cargo.specs.History.{IsSettled, IsRested};
 ghost use Rattle.map_cargo.specs.Steps.{Suits, IsIdle, Gained, Left, Alike};
 
@@ -11,9 +14,10 @@ use crate::cells::{del, get, len, put};
 use crate::ending::close;
 use crate::entry::Entry;
 use crate::history::{QuotaSpent, draw, place_read};
+use crate::refusing::note_refused;
 use crate::size::MapCargo;
-use hall::{ExclusiveGuard, Hall, Pass, Policy, SharedGuard};
-use query_rules::{Query, Said};
+use hall::{ExclusiveGuard, Hall, Pass, Policy, SharedGuard, TryFault};
+use query_rules::{Query, Reply, Said};
 use shared_mutex::{try_lock, try_lock_shared, unlock, unlock_shared};
 use std::process::Abort;
 use std::sync::Wait;
@@ -324,6 +328,53 @@ fn no_quota(rt: HostRuntime) {
             0
         };
         assert_eq!(rt; closed.word(place), left);
+    }
+}
+
+// A try to read that a holder is in the way of: it is refused, and told.
+fn refused_get<A: Abort>(
+    rt: &A,
+    hall: &Hall<MapCargo>,
+    pass: &mut Pass<MapCargo>,
+    cell: u64,
+    key: u64,
+)
+    requires pass { IsPassOf hall.now pass.old }
+    requires cell { cell < (shape_of hall.now).locks }
+    requires idle { IsIdle (view pass.old) }
+    ensures pass { IsPassOf hall.now pass.new }
+    ensures idle { IsIdle (view pass.new) }
+    ensures told { (view pass.new).part.told ≡ told.Refused (view pass.old).number 3 (TryGet cell key) Busy ∷ (view pass.old).part.told }
+    ensures others { 1 < (shape_of hall.now).seats }
+{
+    match try_lock_shared(hall, pass, cell) {
+        Ok(_) => rt.abort(),
+        Err(TryFault::Raced { .. }) => rt.abort(),
+        Err(TryFault::Busy { .. }) => {}
+    }
+    note_refused(hall, pass, 3, &Query::TryGet { cell, key }, &Reply::Busy);
+}
+
+// The first seat holds the cell when the second tries to read it. The refusal is told, and no write is drawn.
+#[test]
+fn a_refused_try(rt: HostRuntime) {
+    let cargo = MapCargo {
+        cells: 1,
+        rows: 2,
+        writes: 1,
+    };
+    let made = Hall::make(rt.alloc(), 1, 1, Policy::WritePriority, 2, 0, cargo);
+    let Ok((hall, first)) = made else { rt.abort() };
+    let mut first = first;
+    let second = hall.split(&mut first, 1, 0);
+    let mut second = second;
+    let guard = exclusive(&rt, &hall, &mut first, 0);
+    refused_get(&rt, &hall, &mut second, 0, 7);
+    leave(&hall, &mut first, guard);
+    hall.join(&mut first, second);
+    let closed = close(hall, first);
+    for place in 0..16 {
+        assert_eq!(rt; closed.word(place), 0);
     }
 }
 

@@ -5,7 +5,8 @@ ghost use Rattle.hall.specs.Views.{standing};
 ghost use Rattle.hall.specs.declared.view.Standing.TheVariants.{Away};
 
 use crate::{
-    rlock, rlock_until, try_rlock, try_wlock, unlock_read, unlock_write, wlock, wlock_until,
+    ReadPtr, ReadWork, WritePtr, WriteWork, rlock, rlock_until, try_rlock, try_wlock, unlock_read,
+    unlock_write, with_rlock, with_wlock, wlock, wlock_until,
 };
 use hall::{Hall, NoCargo, Pass, Policy, TryFault, Word};
 use ql_base::{Clock, ListClock};
@@ -183,6 +184,46 @@ fn tries_beside_a_reader(rt: HostRuntime) {
         }
         Err(_) => assert!(rt; false),
     }
+}
+
+// Loads the word of the cell while it is held.
+struct LoadWord;
+
+impl ReadWork<NoCargo> for LoadWord {
+    type Answer = Word;
+
+    ghost ready = { λ _ _ _. Unit {0} };
+
+    ghost does = { λ _ _ _ _ _. Unit {0} };
+
+    fn read(self, hall: &Hall<NoCargo>, pass: &mut Pass<NoCargo>, ptr: &ReadPtr) -> Word {
+        let LoadWord = self;
+        hall.load(pass, ptr.cell())
+    }
+}
+
+impl WriteWork<NoCargo> for LoadWord {
+    type Answer = Word;
+
+    ghost ready = { λ _ _ _. Unit {0} };
+
+    ghost does = { λ _ _ _ _ _. Unit {0} };
+
+    fn write(self, hall: &Hall<NoCargo>, pass: &mut Pass<NoCargo>, ptr: &WritePtr) -> Word {
+        let LoadWord = self;
+        hall.load(pass, ptr.cell())
+    }
+}
+
+// The work sees the cell held, and afterwards the cell is free.
+#[test]
+fn work_while_a_cell_is_held(rt: HostRuntime) {
+    let made = Hall::make(rt.alloc(), 1, 32, Policy::WritePriority, 1, 0, NoCargo);
+    let Ok((hall, first)) = made else { rt.abort() };
+    let mut pass = first;
+    assert_eq!(rt; with_rlock(&rt, &hall, &mut pass, 0, LoadWord), Word(ONE));
+    assert_eq!(rt; with_wlock(&rt, &hall, &mut pass, 0, LoadWord), Word(8));
+    assert_eq!(rt; hall.load(&mut pass, 0), Word(0));
 }
 
 // Holds cell 0 for writing again and again.
