@@ -21,7 +21,7 @@ use Rattle.query_rules.specs.History.{place_of, IsKindFor}
 use Rattle.query_rules.proofs.ReplyKinds.{said_kind}
 use Rattle.map_cargo.specs.declared.size.MapCargo.{MapCargo}
 use Rattle.map_cargo.specs.declared.entry.Told.{Told}
-use Rattle.map_cargo.specs.declared.entry.Told.TheVariants.{Wrote, Read}
+use Rattle.map_cargo.specs.declared.entry.Told.TheVariants.{Wrote, Read, Refused}
 use Rattle.map_cargo.specs.declared.entry.Part.{Part}
 use Rattle.map_cargo.specs.Cells.{Means, lookup}
 use Rattle.map_cargo.specs.Entries.{named_cells, spoken_cells}
@@ -37,8 +37,8 @@ adds_from n m index q (Placed place said) p s r number seen told h =
     let F : ℕ → ℕ → List Told → Type 0 = λ k a t. (w : ℕ) × (place ≡ place_of w said) × (a ≤ w)
         × MatchBool (is_write said) ((r.seen ≡ w + 1) × (r.told ≡ Wrote w (entry_for k index q said) ∷ t)) ((r.seen ≡ w) × (r.told ≡ Read w (entry_for k index q said) ∷ t)) in
     subst (λ (t : List Told). F m s.seen t) told (subst (λ (a : ℕ). F m a p.told) seen (subst (λ (k : ℕ). F k p.seen p.told) number h))
-adds_from n m index q Busy p s r number seen told h = absurd h
-adds_from n m index q (Late now) p s r number seen told h = absurd h
+adds_from n m index q Busy p s r number seen told h = (h.0 ∙ (λ i. Refused (number i) index q Busy ∷ told i), h.1 ∙ seen)
+adds_from n m index q (Late now) p s r number seen told h = (h.0 ∙ (λ i. Refused (number i) index q (Late now) ∷ told i), h.1 ∙ seen)
 adds_from n m index q (Job at result) p s r number seen told h = (h.0 ∙ told, h.1 ∙ seen)
 
 -- a reply after steps that told nothing

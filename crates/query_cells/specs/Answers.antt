@@ -17,7 +17,7 @@ use Rattle.map_cargo.specs.declared.entry.Part.{Part}
 use Rattle.map_cargo.specs.Cells.{Means}
 use Rattle.map_cargo.specs.Entries.{named_cells, spoken_cells}
 use Rattle.map_cargo.specs.History.{words_of, plain_of, IsRested, IsSettled}
-use Rattle.map_cargo.specs.Steps.{Alike}
+use Rattle.map_cargo.specs.Steps.{Alike, Gained}
 use Rattle.query_cells.specs.Asked.{AddsReply, is_job, tells_write}
 
 -- nothing was told and no write was drawn
@@ -94,3 +94,15 @@ pub record HoldsTwo (a b : ℕ) (y : Standing) (v : View Part) : Type 0 where
   pub others : (k : ℕ) → k ≢ a → k ≢ b → standing v k ≡ Away
   pub first_settled : IsSettled no_entries a v.part
   pub second_settled : IsSettled no_entries b v.part
+
+-- a cell wasn't taken: the pass is away from it, and has told nothing
+pub record TurnedAway (lock : ℕ) (v w : View Part) : Type 0 where
+  pub away : standing w lock ≡ Away
+  pub elsewhere : (k : ℕ) → k ≢ lock → standing w k ≡ standing v k
+  pub nothing : TellsNothing v w
+
+-- a cell was taken in this way: the pass knows its map
+pub record Took (lock : ℕ) (y : Standing) (v w : View Part) : Type 0 where
+  pub stands : standing w lock ≡ y
+  pub elsewhere : (k : ℕ) → k ≢ lock → standing w k ≡ standing v k
+  pub gained : Gained no_entries lock v w
