@@ -14,7 +14,7 @@ use Rattle.query_rules.specs.History.{maps_after}
 use Rattle.map_cargo.specs.declared.size.MapCargo.{MapCargo}
 use Rattle.map_cargo.specs.declared.entry.Entry.{Entry}
 use Rattle.map_cargo.specs.declared.entry.Told.{Told}
-use Rattle.map_cargo.specs.declared.entry.Told.TheVariants.{Wrote, Read}
+use Rattle.map_cargo.specs.declared.entry.Told.TheVariants.{Wrote}
 use Rattle.map_cargo.specs.declared.entry.Part.{Part}
 use Rattle.map_cargo.specs.Cells.{number_place, log_place, cell_words, Means}
 use Rattle.map_cargo.specs.Entries.{queries, named_cells, spoken_cells, log_words}

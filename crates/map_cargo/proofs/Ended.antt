@@ -39,6 +39,7 @@ sole f (x ∷ xs) (suc id) q at none = omega (arith, none zero x refl (λ bad. o
 it_wrote : (w : ℕ) (t : Told) → 0 < is_wrote w t → (e : Entry) × (t ≡ Wrote w e)
 it_wrote w (Wrote n e) pos = dite (ℕ_discrete n w) (λ same. (e, ap (λ (z : ℕ). Wrote z e) same)) (λ ne. let none : is_wrote w (Wrote n e) ≡ 0 = ap (λ b. cond b 1 0) (ne_eqb n w ne) in absurd (omega arith))
 it_wrote w (Read n e) pos = absurd (omega arith)
+it_wrote w (Refused caller index query reply) pos = absurd (omega arith)
 
 holds_write : (w : ℕ) (told : List Told) → 0 < total (is_wrote w) told → (e : Entry) × Has told (Wrote w e)
 holds_write w told pos = let u = find (is_wrote w) told pos in let t = it_wrote w u.1 u.3 in (t.0, subst (Has told) t.1 (has_at told u.0 u.1 u.2))

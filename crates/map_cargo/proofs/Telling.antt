@@ -1,8 +1,6 @@
 -- Telling a refusal keeps one history.
-use Rattle.std.proofs.Common.{◌≡◌, ◌≢◌, ◌<◌, ◌≤◌, ◌+◌, ◌==◌, ℕ, List, length, set, cond, sym, refl, ap, ◌∙◌, subst, ⊎_elim, arith, false, ◌++◌, None, inl}
+use Rattle.std.proofs.Common.{◌≡◌, ◌≢◌, ◌<◌, ◌≤◌, ◌+◌, ℕ, List, length, cond, sym, refl, ap, ◌∙◌, subst, ⊎_elim, arith, false, ◌++◌, None, inl}
 use Rattle.std.proofs.lemmas.List.{set-get_or}
-use mathlib.Core.Option.{some}
-use lib.ListN.{get_elem?}
 use Rattle.view_sums.specs.Sums.{total, total-same}
 use Rattle.lock_model.specs.Locks.{Has}
 use Rattle.hall.specs.declared.cargo.CargoRule.{Ghosts}
@@ -11,12 +9,10 @@ use Rattle.hall.specs.declared.view.Shape.{Shape}
 use Rattle.hall.specs.declared.view.Standing.{Standing}
 use Rattle.hall.specs.declared.view.Standing.TheVariants.{Away}
 use Rattle.hall.specs.declared.view.StepEntry.{StepEntry}
-use Rattle.hall.specs.declared.view.Footprint.{Footprint}
 use Rattle.hall.specs.declared.view.View.{View}
 use Rattle.hall.specs.Cargo.{NotesAside, exclusive_mode, learnt_seat}
 use Rattle.hall.specs.Moves.{Moment}
 use Rattle.hall.specs.Refusals.{BusyForReading, BusyForWriting, ReadTwoWords, several_readers, several_writers, several_racers}
-use Rattle.hall.specs.Rule.{Holds}
 use Rattle.hall.specs.Views.{after_step, footprints_left, standing}
 use Rattle.query_rules.specs.declared.query.Query.{Query}
 use Rattle.query_rules.specs.declared.query.Query.TheVariants.{TryGet, TryPut, GetBy, PutBy}
@@ -31,7 +27,7 @@ use Rattle.map_cargo.specs.declared.entry.Part.{Part}
 use Rattle.map_cargo.specs.Entries.{named_cells}
 use Rattle.map_cargo.specs.History.{Seat, IsRefusal, Knows, OneHistory, Stands, is_wrote, mode_at}
 use Rattle.map_cargo.specs.Laws.{each_set, each_back}
-use Rattle.map_cargo.specs.Licences.{BusyBy, LateBy, Licensed, MayRefuse}
+use Rattle.map_cargo.specs.Licences.{BusyBy, LateBy, Licensed}
 use Rattle.map_cargo.specs.Steps.{Alike, told_too}
 
 busy_refuses : (reply : Reply) (Reads : Type 0) → BusyBy reply Reads → IsRefusal reply

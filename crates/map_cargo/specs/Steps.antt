@@ -12,7 +12,7 @@ use Rattle.query_rules.specs.Maps.{Maps, reply_of, is_write, written}
 use Rattle.map_cargo.specs.declared.size.MapCargo.{MapCargo}
 use Rattle.map_cargo.specs.declared.entry.Entry.{Entry}
 use Rattle.map_cargo.specs.declared.entry.Told.{Told}
-use Rattle.map_cargo.specs.declared.entry.Told.TheVariants.{Wrote, Read, Refused}
+use Rattle.map_cargo.specs.declared.entry.Told.TheVariants.{Wrote, Read}
 use Rattle.map_cargo.specs.declared.entry.Part.{Part}
 use Rattle.map_cargo.specs.Cells.{number_place, log_place, word_count}
 use Rattle.map_cargo.specs.Entries.{named_cells, spoken_cells, log_words}

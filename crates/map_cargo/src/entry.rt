@@ -17,9 +17,15 @@ pub struct Entry {
 #[derive(Clone, Copy)]
 pub enum Told {
     /// This write has the number.
-    Wrote { number: u64, entry: Entry },
+    Wrote {
+        number: u64,
+        entry: Entry,
+    },
     /// So many writes were drawn before this read.
-    Read { number: u64, entry: Entry },
+    Read {
+        number: u64,
+        entry: Entry,
+    },
     /// The cell's lock refused it, so that it has no place among the writes.
     Refused {
         caller: u64,

@@ -1,4 +1,4 @@
-use Rattle.std.proofs.Common.{ℕ, ◌<◌, subst}
+use Rattle.std.proofs.Common.{◌<◌, subst}
 use Rattle.hall.specs.Passes.{view}
 use Rattle.hall.specs.declared.view.Shape.{Shape}
 use Rattle.map_cargo.proofs.Telling.{is_refusal, refuses, two_seats}
