@@ -2,4 +2,6 @@ pub mod Cells
 pub mod Counting
 pub mod Moving
 pub mod Pairs
+pub mod Refusing
 pub mod Replies
+pub mod Taking

@@ -71,7 +71,7 @@ module _ (g : Ghosts MapCargo Part) where
   pub reader_unchanged : (v : View Part) (lock : ℕ) (w : View Part) (f : TryFault) → RefusesShared g v lock w f → Unchanged v w
   reader_unchanged v lock w f r = unchanged_look v w lock (reader_looked g v lock w f r)
 
-  announced : (v u : View Part) (lock : ℕ) → AnnouncesWriter g v lock u → Unchanged v u
+  pub announced : (v u : View Part) (lock : ℕ) → AnnouncesWriter g v lock u → Unchanged v u
   announced v u lock a = unchanged_then v (after_look v kinds.Load lock a.0) u (unchanged_step v (after_look v kinds.Load lock a.0) kinds.Load lock a.0 false (standing v lock) refl) (unchanged_step (after_look v kinds.Load lock a.0) u kinds.Announce lock a.0 true _ a.2.0)
 
   found_readers : (v : View Part) (lock : ℕ) (w : View Part) (word : ℕ) → FoundReaders g v lock w word → Unchanged v w
@@ -83,7 +83,7 @@ module _ (g : Ghosts MapCargo Part) where
   writer_unchanged v lock w (Busy word) r = ⊎_elim (λ t. unchanged_look v w lock (writer_looked g v lock w (Busy word) t)) (found_readers v lock w word) r
   writer_unchanged v lock w (Raced expected found) r = unchanged_look v w lock (writer_looked g v lock w (Raced expected found) r)
 
-  announced_at_last : (v : View Part) (lock : ℕ) (faults : List TryFault) (a : View Part) → AnnouncesAtLast g v lock faults a → Unchanged v a
+  pub announced_at_last : (v : View Part) (lock : ℕ) (faults : List TryFault) (a : View Part) → AnnouncesAtLast g v lock faults a → Unchanged v a
   announced_at_last v lock faults a e = unchanged_then v e.0 a (unchanged_look v e.0 lock e.2) (announced e.0 a lock e.3)
 
   gave_up : (v : View Part) (lock : ℕ) (faults misses : List TryFault) (w : View Part) → GivesUp g v lock faults misses w → Unchanged v w

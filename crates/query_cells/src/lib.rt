@@ -10,11 +10,13 @@
 #![tactic(auto)]
 
 mod asking;
+mod attempts;
 mod changes;
 mod holding;
 mod ledger;
+mod refusable;
 mod single;
 mod telling;
 mod two;
 
-
+pub use asking::ask;
