@@ -159,18 +159,18 @@ logs opening c id place value n k k' e q is one few row is_stored mine' same ws 
     )
 
 -- a read is placed
-pub places : (opening : Maps) (c : MapCargo) (id place : ℕ) (e f : Entry) (q : Seat) → place ≡ number_place c → e ≡ f
+pub places : (opening : Maps) (c : MapCargo) (id place writes : ℕ) (e f : Entry) (q : Seat) → place ≡ number_place c → e ≡ f → c.writes ≡ writes
     → ((cell : ℕ) → Has (spoken_cells e.query) cell → cell < c.cells) → ((cell : ℕ) → Has (spoken_cells e.query) cell → mode_at q cell ≢ None)
     → reply_of c.rows (plain_of opening q.part) e.query ≡ Some e.said → is_write e.said ≡ false
-    → Notes (OneHistory opening c) id q 0 place (λ x. x) (λ found p r. (r ≡ placed p found f) × (p.seen ≤ found))
-places opening c id place e f q is one near holds said reads' ws qs h apart at in' fits =
+    → Notes (OneHistory opening c) id q 0 place (λ x. x) (λ found p r. (r ≡ placed p found f) × (p.seen ≤ found) × (found ≤ writes))
+places opening c id place writes e f q is one limit near holds said reads' ws qs h apart at in' fits =
     let E : List Entry = h.entries in let n : ℕ = length E in let k = h.knows id q at in
     let M : Maps = maps_after opening (queries E) in
     let found : get_or ws place 0 ≡ n = ap (λ (z : ℕ). get_or ws z 0) is ∙ h.number in
     let part : Part = placed q.part n e in
     let agree : (cell : ℕ) → Has (spoken_cells e.query) cell → plain_of opening q.part cell ≡ M cell = λ cell has. (k.known cell (near cell has) (holds cell has)).1 in (
       part,
-      ((λ i. placed q.part (sym found i) (one i)), (let s = k.seen in omega arith)),
+      ((λ i. placed q.part (sym found i) (one i)), (let s = k.seen in omega arith), (let r = h.room in omega arith)),
       subst (λ (l : List ℕ). OneHistory opening c l (set qs id (noted_seat q 0 part))) (sym (set-get_or ws place 0)) (quiet opening c ws qs id q h at part record {
         seen = omega arith;
         told = λ t has. ⊎_elim

@@ -57,7 +57,7 @@ pub(crate) struct Places<K> {
 }
 
 impl<K: Line> Note<MapCargo> for Places<K> {
-    ghost becomes = { λ found p q. (q ≡ placed p found K.entry) × (p.seen ≤ found) };
+    ghost becomes = { λ found p q. (q ≡ placed p found K.entry) × (p.seen ≤ found) × (found ≤ K.writes) };
 }
 
 /// The pass can draw no more writes.
@@ -211,10 +211,11 @@ pub fn draw(
 fn place_by<K: Line>(hall: &Hall<MapCargo>, pass: &mut Pass<MapCargo>, entry: &Entry) -> u64
     requires pass { IsPassOf hall.now pass.old }
     requires suits { Suits hall.now }
-    requires entry { entry.now ≡ K.entry }
+    requires entry { (entry.now ≡ K.entry) × ((cargo_of hall.now).writes ≡ K.writes) }
     requires may { MayPlace no_entries (cargo_of hall.now) (view pass.old) entry.now }
     ensures pass { IsPassOf hall.now pass.new × Alike (view pass.old) (view pass.new) }
     ensures placed { ((view pass.new).part ≡ placed (view pass.old).part result entry.now) × ((view pass.old).part.seen ≤ result) }
+    ensures number { result ≤ (cargo_of hall.now).writes }
 {
     let place = hall.cargo().number_place();
     hall.load_cargo::<Places<K>>(pass, place)
@@ -229,6 +230,7 @@ pub fn place_read(hall: &Hall<MapCargo>, pass: &mut Pass<MapCargo>, entry: &Entr
     requires may { MayPlace no_entries (cargo_of hall.now) (view pass.old) entry.now }
     ensures pass { IsPassOf hall.now pass.new × Alike (view pass.old) (view pass.new) }
     ensures placed { ((view pass.new).part ≡ placed (view pass.old).part result entry.now) × ((view pass.old).part.seen ≤ result) }
+    ensures number { result ≤ (cargo_of hall.now).writes }
 {
     place_by::<Brand>(hall, pass, entry)
 }

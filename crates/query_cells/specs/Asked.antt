@@ -12,7 +12,7 @@ use Rattle.query_rules.specs.Ledger.{act_of, result_of}
 use Rattle.query_rules.specs.History.{place_of}
 use Rattle.query_log.specs.Ledgers.{LedgerView, accounts_in, entry_of}
 use Rattle.map_cargo.specs.declared.entry.Entry.{Entry}
-use Rattle.map_cargo.specs.declared.entry.Told.TheVariants.{Wrote, Read}
+use Rattle.map_cargo.specs.declared.entry.Told.TheVariants.{Wrote, Read, Refused}
 use Rattle.map_cargo.specs.declared.entry.Part.{Part}
 
 -- the queries that may change a map
@@ -48,6 +48,13 @@ is_granted Busy = false
 is_granted (Late now) = false
 is_granted (Job at result) = true
 
+-- a reply of the ledger
+abbrev pub is_job : Reply → Bool
+is_job (Placed place said) = false
+is_job Busy = false
+is_job (Late now) = false
+is_job (Job at result) = true
+
 -- a reply's own entry
 abbrev pub entry_for : ℕ → ℕ → Query → Said → Entry
 entry_for number index q said = record { caller = number; index = index; query = q; said = said }
@@ -58,8 +65,8 @@ AddsReply number index q (Placed place said) p r = (n : ℕ) × (place ≡ place
     × MatchBool (is_write said)
     ((r.seen ≡ n + 1) × (r.told ≡ Wrote n (entry_for number index q said) ∷ p.told))
     ((r.seen ≡ n) × (r.told ≡ Read n (entry_for number index q said) ∷ p.told))
-AddsReply number index q Busy p r = r.seen ≡ p.seen
-AddsReply number index q (Late now) p r = r.seen ≡ p.seen
+AddsReply number index q Busy p r = (r.told ≡ Refused number index q Busy ∷ p.told) × (r.seen ≡ p.seen)
+AddsReply number index q (Late now) p r = (r.told ≡ Refused number index q (Late now) ∷ p.told) × (r.seen ≡ p.seen)
 AddsReply number index q (Job at result) p r = (r.told ≡ p.told) × (r.seen ≡ p.seen)
 
 -- what a reply leaves of the ledger: a job's is the next entry of its history, with its act's result on the accounts so far; the others leave it
@@ -73,6 +80,19 @@ AddsJob number index q (Job at result) old new =
     × (at ≡ length old.entries)
     × (result ≡ result_of old.rows (accounts_in old) act)
     × (new ≡ record { rows = old.rows; room = old.room - 1; entries = old.entries ++ entry_of (record { caller = number; index = index; act = act }) result ∷ [] })
+
+-- until when a query waits
+abbrev pub deadline_of : Query → ℕ
+deadline_of (GetBy cell key deadline) = deadline
+deadline_of (PutBy cell key value deadline) = deadline
+deadline_of _ = 0
+
+-- a reply that is late tells the clock's last answer, which is the query's deadline or later
+abbrev pub IsLateBy : Query → ℕ → Reply → Type 0
+IsLateBy q last (Late now) = (deadline_of q ≤ now) × (now ≡ last)
+IsLateBy q last (Placed place said) = Unit {0}
+IsLateBy q last Busy = Unit {0}
+IsLateBy q last (Job at result) = Unit {0}
 
 -- the numbers of a pass stay
 pub record KeepsNumbers (v w : View Part) : Type 0 where

@@ -1,26 +1,41 @@
-// A stub.
+//! Asking one query, of whatever kind.
 ghost use Rattle.std.specs.Prelude.{◌≡◌, ◌+◌, ◌≤◌, true, MatchBool};
-ghost use Rattle.hall.specs.Passes.{view, IsPassOf, cargo_of, shape_of};
+ghost use Rattle.hall.specs.Passes.{view, IsPassOf, shape_of, cargo_of};
 ghost use Rattle.query_rules.specs.Grammar.{TakesBelow};
 ghost use Rattle.query_rules.specs.History.{IsKindFor, asks_ledger};
 ghost use Rattle.map_cargo.specs.Steps.{Suits, IsIdle};
-ghost use Rattle.query_cells.specs.Asked.{AddsReply, AddsJob, KeepsNumbers, may_write, tells_write, is_granted};
+ghost use Rattle.query_cells.specs.Asked.{AddsJob, AddsReply, IsLateBy, KeepsNumbers, is_granted, may_write, tells_write};
 
+use crate::ledger::ask_ledger;
+use crate::refusable::{ask_get_by, ask_put_by, ask_try_get, ask_try_put};
+use crate::single::{ask_add, ask_cas, ask_del, ask_get, ask_len, ask_put, ask_put_len};
+use crate::two::{ask_both, ask_move};
 use hall::{Hall, Pass};
 use map_cargo::MapCargo;
 use ql_base::Clock;
 use query_log::Ledger;
 use query_rules::{Query, Reply};
 use std::sync::Wait;
-use std::thread;
 
-/// Asks a query.
+/// Asks a query by a pass that holds no lock, as query number `index` of its caller, and answers its one reply.
+///
+/// The maps' queries take their cells by waiting, in the mode that they need: `get`, `len` and `both` for reading; `put`,
+/// `del`, `add`, `cas`, `putlen` and `move` for writing. Two cells are taken one after the other, the lower number first,
+/// and two that are the same one aren't taken. `tryget` and `tryput` try, again where another pass came between, and are
+/// `Busy` where the lock's word conflicted. `getby` and `putby` wait until the clock told the deadline or later, and are
+/// then `Late`. In a hall with one seat no query is `Busy` or `Late`.
+///
+/// A placed reply is told while its cells are held, and the pass has one write less to draw where it is one. A refused one
+/// is told without a place. `give`, `take` and `audit` are jobs of the ledger, and leave the pass as it was.
+///
+/// A query of a cell looks at up to as many rows as the cell has keys. Its contract holds if it returns. It takes no
+/// memory.
 pub fn ask<R: Wait, T: Clock>(
     rt: &R,
     hall: &Hall<MapCargo>,
     pass: &mut Pass<MapCargo>,
     ledger: &mut Ledger,
-    _clock: &mut T,
+    clock: &mut T,
     index: u64,
     query: &Query,
 ) -> Reply
@@ -38,10 +53,39 @@ pub fn ask<R: Wait, T: Clock>(
     ensures kind { IsKindFor query.now result }
     ensures told { AddsReply (view pass.old).number index query.now result (view pass.old).part (view pass.new).part }
     ensures ledger { AddsJob (view pass.old).number index query.now result ledger.old ledger.new }
+    ensures late { IsLateBy query.now (T.last clock.new) result }
     ensures alone { (shape_of hall.now).seats ≡ 1 → is_granted result ≡ true }
 {
-    for _ in rt.forever() {
-        thread::yield_now();
+    match *query {
+        Query::Get { cell, key } => ask_get(rt, hall, pass, index, cell, key),
+        Query::Len { cell } => ask_len(rt, hall, pass, index, cell),
+        Query::Put { cell, key, value } => ask_put(rt, hall, pass, index, cell, key, value),
+        Query::Del { cell, key } => ask_del(rt, hall, pass, index, cell, key),
+        Query::Add { cell, key, delta } => ask_add(rt, hall, pass, index, cell, key, delta),
+        Query::Cas {
+            cell,
+            key,
+            old,
+            new,
+        } => ask_cas(rt, hall, pass, index, cell, key, old, new),
+        Query::PutLen { cell, key, value } => ask_put_len(rt, hall, pass, index, cell, key, value),
+        Query::Move { from, to, key, n } => ask_move(rt, hall, pass, index, from, to, key, n),
+        Query::Both { first, second, key } => ask_both(rt, hall, pass, index, first, second, key),
+        Query::Give { .. } | Query::Take { .. } | Query::Audit => {
+            ask_ledger(pass, ledger, index, query)
+        }
+        Query::TryGet { cell, key } => ask_try_get(rt, hall, pass, index, cell, key),
+        Query::TryPut { cell, key, value } => ask_try_put(rt, hall, pass, index, cell, key, value),
+        Query::GetBy {
+            cell,
+            key,
+            deadline,
+        } => ask_get_by(rt, hall, pass, clock, index, cell, key, deadline),
+        Query::PutBy {
+            cell,
+            key,
+            value,
+            deadline,
+        } => ask_put_by(rt, hall, pass, clock, index, cell, key, value, deadline),
     }
-    unreachable!()
 }

@@ -1,0 +1,7 @@
+pub mod Cells
+pub mod Counting
+pub mod Moving
+pub mod Pairs
+pub mod Refusing
+pub mod Replies
+pub mod Taking

@@ -1,0 +1,85 @@
+-- Queries that were refused.
+use Rattle.std.specs.Prelude.{◌≡◌, ◌≢◌, ℕ, ◌<◌, ◌≤◌, ◌⊎◌, Bool, true, false, List, [], ◌∷◌, MatchBool}
+use Rattle.std.proofs.Common.{refl, sym, ap, ◌∙◌, subst, ⊎_elim}
+use Rattle.lock_model.specs.Locks.{Has}
+use Rattle.hall.specs.declared.view.Shape.{Shape}
+use Rattle.hall.specs.declared.view.Standing.TheVariants.{Away}
+use Rattle.hall.specs.declared.view.StepEntry.{StepEntry}
+use Rattle.hall.specs.declared.view.View.{View}
+use Rattle.hall.specs.Views.{standing}
+use Rattle.query_rules.specs.declared.query.Query.{Query}
+use Rattle.query_rules.specs.declared.query.Query.TheVariants as query
+use Rattle.query_rules.specs.declared.query.Reply.{Reply}
+use Rattle.query_rules.specs.declared.query.Reply.TheVariants.{Placed, Busy, Late, Job}
+use Rattle.query_rules.specs.History.{IsKindFor}
+use Rattle.map_cargo.specs.declared.entry.Told.TheVariants.{Refused}
+use Rattle.map_cargo.specs.declared.entry.Part.{Part}
+use Rattle.map_cargo.specs.Entries.{named_cells}
+use Rattle.map_cargo.specs.Gaining.{everywhere}
+use Rattle.map_cargo.specs.History.{IsRested}
+use Rattle.map_cargo.specs.Licences.{Licensed, MayRefuse}
+use Rattle.map_cargo.specs.Steps.{Alike, IsIdle, told_too}
+use Rattle.query_cells.specs.Asked.{AddsReply, is_job, tells_write, is_granted, IsLateBy}
+use Rattle.query_cells.specs.Answers.{Tells, TellsNothing, TurnedAway}
+
+-- what a licensed reply is
+pub record Refusable (q : Query) (reply : Reply) : Type 0 where
+  pub kind : IsKindFor q reply
+  pub of_maps : is_job reply ≡ false
+  pub reads : tells_write reply ≡ false
+  pub adds : (n index : ℕ) (p r : Part) → r ≡ told_too p (Refused n index q reply) → AddsReply n index q reply p r
+
+busy : (q : Query) → IsKindFor q Busy → Refusable q Busy
+busy q kind = record { kind = kind; of_maps = refl; reads = refl; adds = λ n index p r is. (ap (λ (z : Part). z.told) is, ap (λ (z : Part). z.seen) is) }
+
+late : (q : Query) (now : ℕ) → IsKindFor q (Late now) → Refusable q (Late now)
+late q now kind = record { kind = kind; of_maps = refl; reads = refl; adds = λ n index p r is. (ap (λ (z : Part). z.told) is, ap (λ (z : Part). z.seen) is) }
+
+refusable : (shape : Shape) (number : ℕ) (steps : List StepEntry) (q : Query) (reply : Reply) → Licensed shape number steps q reply → Refusable q reply
+refusable shape number steps (query.TryGet cell key) Busy h = busy (query.TryGet cell key) refl
+refusable shape number steps (query.TryPut cell key value) Busy h = busy (query.TryPut cell key value) refl
+refusable shape number steps (query.GetBy cell key deadline) (Late now) h = late (query.GetBy cell key deadline) now refl
+refusable shape number steps (query.PutBy cell key value deadline) (Late now) h = late (query.PutBy cell key value deadline) now refl
+refusable shape number steps q reply h = absurd h
+
+not_written : (b : Bool) (A B : Type 0) → b ≡ false → B → MatchBool b A B
+not_written true A B e x = absurd (cc)
+not_written false A B e x = x
+
+-- a refused reply was told
+pub refusal_tells : (v w : View Part) (index : ℕ) (q : Query) (reply : Reply) → MayRefuse v q reply → Alike v w → w.part ≡ told_too v.part (Refused v.number index q reply) → Tells v w index q reply
+refusal_tells v w index q reply may alike told =
+    let r = refusable v.shape v.number v.steps q reply may.licence in record {
+      number = alike.number;
+      span = alike.span;
+      taken = alike.taken;
+      quota = not_written (tells_write reply) _ _ r.reads alike.quota;
+      kind = r.kind;
+      of_maps = r.of_maps;
+      told = r.adds v.number index v.part w.part told;
+    }
+
+pub still_rested : (v w : View Part) (index : ℕ) (q : Query) (reply : Reply) → w.part ≡ told_too v.part (Refused v.number index q reply) → IsIdle v → IsRested w.part
+still_rested v w index q reply told idle = ap (λ (p : Part). p.stored) told ∙ idle.1
+
+-- a pass that was turned away from a cell is idle, as before
+pub idle_away : (v w : View Part) (cell : ℕ) → TurnedAway cell v w → IsIdle v → IsIdle w
+idle_away v w cell away idle = (everywhere w cell away.away (λ k ne. away.elsewhere k ne ∙ idle.0 k), away.nothing.stored ∙ idle.1)
+
+one_in : (P : ℕ → Type 0) (a k : ℕ) → Has (a ∷ []) k → P a → P k
+one_in P a k has x = ⊎_elim (λ e. subst P (sym e) x) (λ bad. absurd bad) has
+
+-- a query of one cell that its lock refused
+pub may_refuse : (v w : View Part) (q : Query) (cell locks : ℕ) (reply : Reply) → named_cells q ≡ cell ∷ [] → w.shape.locks ≡ locks → cell < locks → TurnedAway cell v w → Licensed w.shape w.number w.steps q reply → MayRefuse w q reply
+may_refuse v w q cell locks reply names is near away licence = record {
+  near = λ k has. one_in (λ (i : ℕ). i < w.shape.locks) cell k (subst (λ (l : List ℕ). Has l k) names has) (subst (λ (n : ℕ). cell < n) (sym is) near);
+  away = λ k has. one_in (λ (i : ℕ). standing w i ≡ Away) cell k (subst (λ (l : List ℕ). Has l k) names has) away.away;
+  licence = licence;
+}
+
+-- a reply that was granted isn't late
+pub granted_in_time : (q : Query) (last : ℕ) (reply : Reply) → is_granted reply ≡ true → IsLateBy q last reply
+granted_in_time q last (Placed place said) e = tt
+granted_in_time q last Busy e = tt
+granted_in_time q last (Late now) e = absurd (cc)
+granted_in_time q last (Job at result) e = tt

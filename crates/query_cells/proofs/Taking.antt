@@ -1,0 +1,111 @@
+-- Cells that were taken by a try or until a deadline, and such that weren't.
+use Rattle.std.specs.Prelude.{◌≡◌, ◌≢◌, ℕ, ◌+◌, ◌<◌, ◌≤◌, ◌⊎◌, Bool, true, false, List, [], ◌∷◌, Some, None, slice_index_or, slice_set}
+use Rattle.std.specs.declared.option.Option.{Option}
+use Rattle.std.proofs.Common.{refl, sym, ap, ◌∙◌, subst, ⊎_elim, inl, inr, arith}
+use Rattle.hall.specs.declared.cargo.CargoRule.{Ghosts}
+use Rattle.hall.specs.declared.guards.TryFault.{TryFault}
+use Rattle.hall.specs.declared.guards.TryFault.TheVariants.{Busy, Raced}
+use Rattle.hall.specs.declared.view.Kind.{Kind}
+use Rattle.hall.specs.declared.view.Kind.TheVariants as kinds
+use Rattle.hall.specs.declared.view.Standing.{Standing}
+use Rattle.hall.specs.declared.view.Standing.TheVariants.{Away}
+use Rattle.hall.specs.declared.view.View.{View}
+use Rattle.hall.specs.Plays.{Retracts}
+use Rattle.hall.specs.Refusals.{BusyForReading, BusyForWriting, ReadTwoWords}
+use Rattle.hall.specs.Views.{after_look, after_step, standing}
+use Rattle.shared_mutex.specs.Acquiring.{AnnouncesWriter, ElsewhereSame, FoundReaders, RefusesAnnouncing, RefusesExclusive, RefusesShared}
+use Rattle.shared_mutex.specs.Refused.{ReadAsReader, ReadAsWriter}
+use Rattle.sync_cell.specs.Tries.{AnnouncesAtLast, GivesUp, OnlyLooked, WritersRefused}
+use Rattle.sync_cell.specs.TryLaws.{reader_looked, writer_looked}
+use Rattle.sync_cell.specs.Waits.{GaveUpLate}
+use Rattle.query_rules.specs.Maps.{no_entries}
+use Rattle.map_cargo.specs.declared.size.MapCargo.{MapCargo}
+use Rattle.map_cargo.specs.declared.entry.Part.{Part}
+use Rattle.map_cargo.specs.Gaining.{gained_from}
+use Rattle.map_cargo.specs.Steps.{Gained, IsIdle}
+use Rattle.query_cells.specs.Answers.{TellsNothing, Took, TurnedAway}
+
+-- steps that left all that the pass knows and has to draw
+pub record Unchanged (v w : View Part) : Type 0 where
+  pub part : w.part ≡ v.part
+  pub number : w.number ≡ v.number
+  pub quota : w.quota ≡ v.quota
+  pub span : w.span ≡ v.span
+  pub taken : w.taken ≡ v.taken
+
+pub unchanged_none : (v : View Part) → Unchanged v v
+unchanged_none v = record { part = refl; number = refl; quota = refl; span = refl; taken = refl }
+
+pub unchanged_then : (v u w : View Part) → Unchanged v u → Unchanged u w → Unchanged v w
+unchanged_then v u w a b = record { part = b.part ∙ a.part; number = b.number ∙ a.number; quota = b.quota ∙ a.quota; span = b.span ∙ a.span; taken = b.taken ∙ a.taken }
+
+pub unchanged_look : (v w : View Part) (lock : ℕ) → OnlyLooked v lock w → Unchanged v w
+unchanged_look v w lock looked = record { part = looked.part; number = looked.number; quota = looked.quota; span = looked.span; taken = looked.taken }
+
+unchanged_step : (v w : View Part) (kind : Kind) (lock word : ℕ) (won : Bool) (y : Standing) → w ≡ after_step v kind lock word won y v.part → Unchanged v w
+unchanged_step v w kind lock word won y is = record {
+  part = ap (λ (z : View Part). z.part) is;
+  number = ap (λ (z : View Part). z.number) is;
+  quota = ap (λ (z : View Part). z.quota) is;
+  span = ap (λ (z : View Part). z.span) is;
+  taken = ap (λ (z : View Part). z.taken) is;
+}
+
+-- such steps tell nothing
+pub unchanged_tells : (v w : View Part) → Unchanged v w → TellsNothing v w
+unchanged_tells v w h = record {
+  number = h.number;
+  span = h.span;
+  taken = h.taken;
+  quota = h.quota;
+  seen = ap (λ (p : Part). p.seen) h.part;
+  told = ap (λ (p : Part). p.told) h.part;
+  row = ap (λ (p : Part). p.row) h.part;
+  stored = ap (λ (p : Part). p.stored) h.part;
+}
+
+pub gained_later : (lock : ℕ) (v u w : View Part) → Unchanged v u → Gained no_entries lock u w → Gained no_entries lock v w
+gained_later lock v u w h got = gained_from no_entries lock u v w h.part h.number h.quota h.span h.taken got
+
+module _ (g : Ghosts MapCargo Part) where
+  pub reader_unchanged : (v : View Part) (lock : ℕ) (w : View Part) (f : TryFault) → RefusesShared g v lock w f → Unchanged v w
+  reader_unchanged v lock w f r = unchanged_look v w lock (reader_looked g v lock w f r)
+
+  pub announced : (v u : View Part) (lock : ℕ) → AnnouncesWriter g v lock u → Unchanged v u
+  announced v u lock a = unchanged_then v (after_look v kinds.Load lock a.0) u (unchanged_step v (after_look v kinds.Load lock a.0) kinds.Load lock a.0 false (standing v lock) refl) (unchanged_step (after_look v kinds.Load lock a.0) u kinds.Announce lock a.0 true _ a.2.0)
+
+  found_readers : (v : View Part) (lock : ℕ) (w : View Part) (word : ℕ) → FoundReaders g v lock w word → Unchanged v w
+  found_readers v lock w word r =
+      let u : View Part = r.0 in let look : View Part = after_look u kinds.Hold lock word in
+      unchanged_then v u w (announced v u lock r.1) (unchanged_then u look w (unchanged_step u look kinds.Hold lock word false (standing u lock) refl) (unchanged_step look w kinds.Retract lock r.4.0 true Away r.4.1))
+
+  pub writer_unchanged : (v : View Part) (lock : ℕ) (w : View Part) (f : TryFault) → RefusesExclusive g v lock w f → Unchanged v w
+  writer_unchanged v lock w (Busy word) r = ⊎_elim (λ t. unchanged_look v w lock (writer_looked g v lock w (Busy word) t)) (found_readers v lock w word) r
+  writer_unchanged v lock w (Raced expected found) r = unchanged_look v w lock (writer_looked g v lock w (Raced expected found) r)
+
+  pub announced_at_last : (v : View Part) (lock : ℕ) (faults : List TryFault) (a : View Part) → AnnouncesAtLast g v lock faults a → Unchanged v a
+  announced_at_last v lock faults a e = unchanged_then v e.0 a (unchanged_look v e.0 lock e.2) (announced e.0 a lock e.3)
+
+  gave_up : (v : View Part) (lock : ℕ) (faults misses : List TryFault) (w : View Part) → GivesUp g v lock faults misses w → Unchanged v w
+  gave_up v lock faults misses w e =
+      let a : View Part = e.0 in let met = e.2 in
+      unchanged_then v a w (announced_at_last v lock faults a e.1) (unchanged_then a met.0 w (unchanged_look a met.0 lock met.2) (unchanged_step met.0 w kinds.Retract lock met.3.0 true Away met.3.1.0))
+
+  pub late_unchanged : {T : Type 0} (last : T → ℕ) (answers : T → Option (List ℕ)) (deadline lock : ℕ) (v w : View Part) (old new : T) (fault : TryFault) (now : ℕ) → GaveUpLate g last answers deadline lock v w old new fault now → Unchanged v w
+  late_unchanged last answers deadline lock v w old new fault now r = ⊎_elim (λ t. unchanged_look v w lock t.2) (λ t. gave_up v lock t.0 (fault ∷ t.1) w t.2) r
+
+-- what a late reader and a late writer read
+pub late_reads : (w : View Part) (lock : ℕ) (fault : TryFault) → ReadAsReader w lock fault → BusyForReading w.shape w.number w.steps lock ⊎ ReadTwoWords w.shape w.number w.steps lock
+late_reads w lock (Busy word) r = inl r
+late_reads w lock (Raced expected found) r = inr r
+
+pub late_writes : (w : View Part) (lock : ℕ) (fault : TryFault) → ReadAsWriter w lock fault → BusyForWriting w.shape w.number w.steps lock ⊎ ReadTwoWords w.shape w.number w.steps lock
+late_writes w lock (Busy word) r = inl r
+late_writes w lock (Raced expected found) r = inr r
+
+-- a pass that wasn't let in after tries
+pub turned_away : (v u w : View Part) (lock : ℕ) → Unchanged v u → Unchanged u w → ElsewhereSame v u lock → ElsewhereSame u w lock → standing w lock ≡ Away → TurnedAway lock v w
+turned_away v u w lock a b x y away = record { away = away; elsewhere = λ k ne. y k ne ∙ x k ne; nothing = unchanged_tells v w (unchanged_then v u w a b) }
+
+pub took_at_last : (v u w : View Part) (lock : ℕ) (y : Standing) → Unchanged v u → ElsewhereSame v u lock → ElsewhereSame u w lock → standing w lock ≡ y → Gained no_entries lock u w → Took lock y v w
+took_at_last v u w lock y a same_u same_w stands got = record { stands = stands; elsewhere = λ k ne. same_w k ne ∙ same_u k ne; gained = gained_later lock v u w a got }

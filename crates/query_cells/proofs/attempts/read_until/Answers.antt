@@ -1,0 +1,22 @@
+use Rattle.hall.specs.Passes.{view}
+use Rattle.sync_cell.specs.Refused.{reader_late}
+use Rattle.query_rules.specs.Maps.{no_entries}
+use Rattle.map_cargo.specs.Gaining.{gained_by, gained_from}
+use Rattle.query_cells.proofs.Taking.{late_reads}
+use Rattle.query_cells.proofs.attempts.read_until.Goals as goal
+
+pub returns-in-Ok-clause-taken : goal.returns-in-Ok-clause-taken
+returns-in-Ok-clause-taken g c =
+    let e = c.in-Ok.ensures in let s = e.step.1 in let looked = s.2 in (
+      e.cell,
+      record {
+        stands = e.stands;
+        elsewhere = e.elsewhere;
+        gained = gained_from no_entries c.args.cell _ _ _ looked.part looked.number looked.quota looked.span looked.taken (gained_by no_entries _ _ _ _ _ _ s.3.2.0);
+      },
+    )
+
+pub returns-in-Err-clause-reads : goal.returns-in-Err-clause-reads
+returns-in-Err-clause-reads g c =
+    let s = c.in-Err.ensures.step in let w = view c.rlock_until.new.pass in
+    late_reads w c.args.cell c.in-Err.late.fault (reader_late _ (view c.args.pass.now) c.args.cell w c.in-Err.late.fault s.0 c.requires.away s.1)

@@ -1,0 +1,18 @@
+use Rattle.std.proofs.Common.{◌≡◌}
+use Rattle.hall.specs.declared.view.Standing.TheVariants.{Away}
+use Rattle.hall.specs.Passes.{view, IsPassOf}
+use Rattle.hall.specs.Views.{standing}
+use Rattle.shared_mutex.specs.Acquiring.{ElsewhereSame}
+use Rattle.query_cells.proofs.Taking.{Unchanged}
+use Rattle.query_cells.proofs.attempts.try_to_write.Given as goal
+
+-- all tries so far were raced, and left the pass as it was
+abbrev pub invariant-trying : goal.invariant-trying
+invariant-trying g l = record {
+  next : (goal.iterator-trying g).can_next l.iterator';
+  goes_on : (goal.iterator-trying g).is_finite l.iterator';
+  pass : IsPassOf l.hall l.pass;
+  away : standing (view l.pass) l.cell ≡ Away;
+  quiet : Unchanged (view l.fn.pass) (view l.pass);
+  elsewhere : ElsewhereSame (view l.fn.pass) (view l.pass) l.cell;
+}

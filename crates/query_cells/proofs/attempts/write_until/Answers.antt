@@ -1,0 +1,23 @@
+use Rattle.hall.specs.Passes.{view}
+use Rattle.sync_cell.specs.Refused.{writer_late}
+use Rattle.query_rules.specs.Maps.{no_entries}
+use Rattle.map_cargo.specs.Gaining.{gained_by}
+use Rattle.query_cells.proofs.Taking.{announced_at_last, gained_later, late_writes, unchanged_look, unchanged_then}
+use Rattle.query_cells.proofs.attempts.write_until.Goals as goal
+
+pub returns-in-Ok-clause-taken : goal.returns-in-Ok-clause-taken
+returns-in-Ok-clause-taken g c =
+    let e = c.in-Ok.ensures in let s = e.step.2 in let last = s.2 in let v = view c.args.pass.now in (
+      e.cell,
+      record {
+        stands = e.stands;
+        elsewhere = e.elsewhere;
+        gained = gained_later c.args.cell v last.0 (view c.wlock_until.new.pass)
+            (unchanged_then v s.0 last.0 (announced_at_last _ v c.args.cell e.step.0 s.0 s.1) (unchanged_look s.0 last.0 c.args.cell last.2)) (gained_by no_entries _ _ _ _ _ _ last.3.0);
+      },
+    )
+
+pub returns-in-Err-clause-reads : goal.returns-in-Err-clause-reads
+returns-in-Err-clause-reads g c =
+    let w = view c.wlock_until.new.pass in let late = c.in-Err.late in
+    late_writes w c.args.cell late.fault (writer_late _ _ _ c.args.deadline c.args.cell (view c.args.pass.now) w _ _ late.fault late.now c.requires.away c.in-Err.ensures.step)

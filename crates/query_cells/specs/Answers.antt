@@ -1,0 +1,108 @@
+-- Steps of one query: what they keep, and what they tell.
+use Rattle.std.specs.Prelude.{◌≡◌, ◌≢◌, ℕ, ◌+◌, ◌<◌, ◌≤◌, List, [], ◌∷◌, MatchBool, Some, true, false}
+use Rattle.lock_model.specs.Locks.{Has}
+use Rattle.hall.specs.declared.view.View.{View}
+use Rattle.hall.specs.declared.view.Standing.{Standing}
+use Rattle.hall.specs.declared.view.Standing.TheVariants.{Away}
+use Rattle.hall.specs.Cargo.{exclusive_mode}
+use Rattle.hall.specs.Views.{standing, mode_of}
+use Rattle.query_rules.specs.declared.query.Query.{Query}
+use Rattle.query_rules.specs.declared.query.Query.TheVariants.{Put}
+use Rattle.query_rules.specs.declared.query.Said.{Said}
+use Rattle.query_rules.specs.declared.query.Reply.{Reply}
+use Rattle.query_rules.specs.Maps.{Maps, no_entries, reply_of, is_write, after, get_says}
+use Rattle.query_rules.specs.History.{IsKindFor}
+use Rattle.map_cargo.specs.declared.size.MapCargo.{MapCargo}
+use Rattle.map_cargo.specs.declared.entry.Part.{Part}
+use Rattle.map_cargo.specs.Cells.{Means}
+use Rattle.map_cargo.specs.Entries.{named_cells, spoken_cells}
+use Rattle.map_cargo.specs.History.{words_of, plain_of, IsRested, IsSettled}
+use Rattle.map_cargo.specs.Steps.{Alike, Gained}
+use Rattle.query_cells.specs.Asked.{AddsReply, is_job, tells_write}
+
+-- nothing was told and no write was drawn
+pub record TellsNothing (v w : View Part) : Type 0 where
+  pub number : w.number ≡ v.number
+  pub span : w.span ≡ v.span
+  pub taken : w.taken ≡ v.taken
+  pub quota : w.quota ≡ v.quota
+  pub seen : w.part.seen ≡ v.part.seen
+  pub told : w.part.told ≡ v.part.told
+  pub row : w.part.row ≡ v.part.row
+  pub stored : w.part.stored ≡ v.part.stored
+
+-- this reply was told, and nothing else
+pub record Tells (v w : View Part) (index : ℕ) (q : Query) (reply : Reply) : Type 0 where
+  pub number : w.number ≡ v.number
+  pub span : w.span ≡ v.span
+  pub taken : w.taken ≡ v.taken
+  pub quota : MatchBool (tells_write reply) (w.quota + 1 ≡ v.quota) (w.quota ≡ v.quota)
+  pub kind : IsKindFor q reply
+  pub of_maps : is_job reply ≡ false
+  pub told : AddsReply v.number index q reply v.part w.part
+
+-- a pass holds no other lock than this
+abbrev pub OnlyAt : ℕ → View Part → Type 0
+OnlyAt lock v = (k : ℕ) → k ≢ lock → standing v k ≡ Away
+
+-- what may be told of cells that the pass holds exclusively: what the plain maps say, for which it has a write to draw where it is one
+pub record MayTell (c : MapCargo) (v : View Part) (q : Query) (said : Said) : Type 0 where
+  pub near : (cell : ℕ) → Has (named_cells q) cell → cell < c.cells
+  pub holds : (cell : ℕ) → Has (named_cells q) cell → mode_of (standing v cell) ≡ exclusive_mode
+  pub says : reply_of c.rows (plain_of no_entries v.part) q ≡ Some said
+  pub quota : is_write said ≡ true → 1 ≤ v.quota
+  pub rested : IsRested v.part
+
+-- the plain maps are those that the reply leaves, and no word changed
+pub record Follows (v w : View Part) (q : Query) (said : Said) : Type 0 where
+  pub plain : (cell : ℕ) → plain_of no_entries w.part cell ≡ after (plain_of no_entries v.part) q said cell
+  pub words : (cell : ℕ) → words_of w.part cell ≡ words_of v.part cell
+  pub rested : IsRested w.part
+
+-- the words of a cell are those that a reply leaves
+abbrev pub Stored : View Part → ℕ → Query → Said → Type 0
+Stored v cell q said = Means (words_of v.part cell) (after (plain_of no_entries v.part) q said cell)
+
+-- a query that asks for the value of a key in a cell
+pub record AsksValue (q : Query) (cell key : ℕ) : Type 0 where
+  pub names : spoken_cells q ≡ cell ∷ []
+  pub says : (rows : ℕ) (maps : Maps) → reply_of rows maps q ≡ Some (get_says ((maps cell).value_at key))
+
+-- a query that gives a key of a cell this value
+pub record AsksPut (q : Query) (cell key value : ℕ) : Type 0 where
+  pub names : named_cells q ≡ cell ∷ []
+  pub says : (rows : ℕ) (maps : Maps) → reply_of rows maps q ≡ reply_of rows maps (Put cell key value)
+  pub leaves : (maps : Maps) (said : Said) → after maps q said ≡ after maps (Put cell key value) said
+
+-- a cell's words are afterwards those that a reply to a query on the maps before leaves
+abbrev pub Leaves : ℕ → View Part → View Part → Query → Said → Type 0
+Leaves cell v w q said = Means (words_of w.part cell) (after (plain_of no_entries v.part) q said cell)
+
+-- words of held cells may have changed, and nothing else that the pass knows
+pub record ChangesWords (v w : View Part) : Type 0 where
+  pub alike : Alike v w
+  pub writes : w.part.writes ≡ v.part.writes
+  pub seen : w.part.seen ≡ v.part.seen
+  pub told : w.part.told ≡ v.part.told
+  pub row : w.part.row ≡ v.part.row
+  pub stored : w.part.stored ≡ v.part.stored
+
+-- a pass holds these two cells alone, both in this way, and their words mean their maps
+pub record HoldsTwo (a b : ℕ) (y : Standing) (v : View Part) : Type 0 where
+  pub first : standing v a ≡ y
+  pub second : standing v b ≡ y
+  pub others : (k : ℕ) → k ≢ a → k ≢ b → standing v k ≡ Away
+  pub first_settled : IsSettled no_entries a v.part
+  pub second_settled : IsSettled no_entries b v.part
+
+-- a cell wasn't taken: the pass is away from it, and has told nothing
+pub record TurnedAway (lock : ℕ) (v w : View Part) : Type 0 where
+  pub away : standing w lock ≡ Away
+  pub elsewhere : (k : ℕ) → k ≢ lock → standing w k ≡ standing v k
+  pub nothing : TellsNothing v w
+
+-- a cell was taken in this way: the pass knows its map
+pub record Took (lock : ℕ) (y : Standing) (v w : View Part) : Type 0 where
+  pub stands : standing w lock ≡ y
+  pub elsewhere : (k : ℕ) → k ≢ lock → standing w k ≡ standing v k
+  pub gained : Gained no_entries lock v w

@@ -1,0 +1,77 @@
+//! Taking a cell and giving it back, as the maps see it.
+ghost use Rattle.std.specs.Prelude.{◌≡◌, ◌≢◌, ◌<◌, ℕ};
+ghost use Rattle.hall.specs.Passes.{view, IsPassOf, shape_of};
+ghost use Rattle.hall.specs.Views.{standing};
+ghost use Rattle.hall.specs.declared.view.Standing.TheVariants.{Away, Inline, Exclusive};
+ghost use Rattle.shared_mutex.specs.Acquiring.{ElsewhereSame};
+ghost use Rattle.query_rules.specs.Maps.{no_entries};
+ghost use Rattle.map_cargo.specs.History.{IsSettled};
+ghost use Rattle.map_cargo.specs.Steps.{Gained, Left};
+
+use hall::{Hall, Pass};
+use map_cargo::MapCargo;
+use std::sync::Wait;
+use sync_cell::{ReadPtr, WritePtr, rlock, unlock_read, unlock_write, wlock};
+
+/// Waits until the cell can be read, and holds it for reading: the pass knows its map.
+pub(crate) fn hold_for_reading<R: Wait>(
+    rt: &R,
+    hall: &Hall<MapCargo>,
+    pass: &mut Pass<MapCargo>,
+    cell: u64,
+) -> ReadPtr
+    requires pass { IsPassOf hall.now pass.old }
+    requires cell { cell < (shape_of hall.now).locks }
+    requires away { standing (view pass.old) cell ≡ Away }
+    ensures pass { IsPassOf hall.now pass.new }
+    ensures held { (result.guard.lock ≡ cell) × (standing (view pass.new) cell ≡ Inline) }
+    ensures elsewhere { ElsewhereSame (view pass.old) (view pass.new) cell }
+    ensures gained { Gained no_entries cell (view pass.old) (view pass.new) }
+{
+    rlock(rt, hall, pass, cell)
+}
+
+/// Waits until the cell can be written, and holds it for writing: the pass knows its map.
+pub(crate) fn hold_for_writing<R: Wait>(
+    rt: &R,
+    hall: &Hall<MapCargo>,
+    pass: &mut Pass<MapCargo>,
+    cell: u64,
+) -> WritePtr
+    requires pass { IsPassOf hall.now pass.old }
+    requires cell { cell < (shape_of hall.now).locks }
+    requires away { standing (view pass.old) cell ≡ Away }
+    ensures pass { IsPassOf hall.now pass.new }
+    ensures held { (result.guard.lock ≡ cell) × (standing (view pass.new) cell ≡ Exclusive) }
+    ensures elsewhere { ElsewhereSame (view pass.old) (view pass.new) cell }
+    ensures gained { Gained no_entries cell (view pass.old) (view pass.new) }
+{
+    wlock(rt, hall, pass, cell)
+}
+
+/// Gives a cell back that was held for reading.
+pub(crate) fn leave_reading(hall: &Hall<MapCargo>, pass: &mut Pass<MapCargo>, ptr: ReadPtr)
+    requires pass { IsPassOf hall.now pass.old }
+    requires cell { ptr.guard.lock < (shape_of hall.now).locks }
+    requires held { standing (view pass.old) ptr.guard.lock ≡ Inline }
+    ensures pass { IsPassOf hall.now pass.new }
+    ensures away { standing (view pass.new) ptr.guard.lock ≡ Away }
+    ensures elsewhere { ElsewhereSame (view pass.old) (view pass.new) ptr.guard.lock }
+    ensures left { Left (view pass.old) (view pass.new) }
+{
+    unlock_read(hall, pass, ptr);
+}
+
+/// Gives a cell back that was held for writing. Its words have to mean its map again.
+pub(crate) fn leave_writing(hall: &Hall<MapCargo>, pass: &mut Pass<MapCargo>, ptr: WritePtr)
+    requires pass { IsPassOf hall.now pass.old }
+    requires cell { ptr.guard.lock < (shape_of hall.now).locks }
+    requires held { standing (view pass.old) ptr.guard.lock ≡ Exclusive }
+    requires settled { IsSettled no_entries ptr.guard.lock (view pass.old).part }
+    ensures pass { IsPassOf hall.now pass.new }
+    ensures away { standing (view pass.new) ptr.guard.lock ≡ Away }
+    ensures elsewhere { ElsewhereSame (view pass.old) (view pass.new) ptr.guard.lock }
+    ensures left { Left (view pass.old) (view pass.new) }
+{
+    unlock_write(hall, pass, ptr);
+}

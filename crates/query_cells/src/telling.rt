@@ -1,0 +1,186 @@
+//! Telling a reply by a named step, while its cells are held.
+ghost use Rattle.std.specs.Prelude.{◌≡◌, ◌≢◌, ◌<◌, ◌≤◌, ◌∷◌, [], ℕ, true, false};
+ghost use Rattle.hall.specs.Passes.{view, IsPassOf, shape_of, cargo_of};
+ghost use Rattle.hall.specs.Views.{standing};
+ghost use Rattle.hall.specs.declared.view.Standing.TheVariants.{Inline, Exclusive};
+ghost use Rattle.query_rules.specs.Maps as plain;
+ghost use Rattle.query_rules.specs.Maps.{no_entries, reply_of};
+ghost use Rattle.map_cargo.specs.Entries.{named_cells, spoken_cells};
+ghost use Rattle.map_cargo.specs.History.{plain_of, IsRested};
+ghost use Rattle.map_cargo.specs.Steps.{Suits, Stays, Alike, IsIdle, MayDraw, MayPlace};
+ghost use Rattle.query_cells.specs.Asked.{entry_for, is_granted};
+ghost use Rattle.query_cells.specs.Answers.{Follows, MayTell, OnlyAt, Stored, Tells};
+
+use crate::holding::{leave_reading, leave_writing};
+use hall::{Hall, Pass};
+use map_cargo::{Entry, MapCargo, draw, place_read};
+use query_rules::{Query, Reply, Said};
+use sync_cell::{ReadPtr, WritePtr};
+
+// Whether a reply is a write.
+fn is_write(said: Said) -> bool
+    ensures { result ≡ plain.is_write said }
+{
+    match said {
+        Said::New
+        | Said::Old(_)
+        | Said::Now(_)
+        | Said::Yes
+        | Said::NewCount(_)
+        | Said::OldCount(..)
+        | Said::Moved => true,
+        Said::Found(_)
+        | Said::Absent
+        | Said::Count(_)
+        | Said::Full
+        | Said::Over
+        | Said::No(_)
+        | Said::Short(_)
+        | Said::Same
+        | Said::Pair(..) => false,
+    }
+}
+
+/// Places a reply that is a read, by one load of the number word.
+#[tactic(auto, using(crate::proofs::Replies::read_told, crate::proofs::Replies::read_follows))]
+pub(crate) fn tell_read(
+    hall: &Hall<MapCargo>,
+    pass: &mut Pass<MapCargo>,
+    index: u64,
+    query: &Query,
+    said: Said,
+) -> Reply
+    requires pass { IsPassOf hall.now pass.old }
+    requires suits { Suits hall.now }
+    requires may { MayPlace no_entries (cargo_of hall.now) (view pass.old) (entry_for (view pass.old).number index query.now said) }
+    requires rested { IsRested (view pass.old).part }
+    ensures pass { IsPassOf hall.now pass.new × Alike (view pass.old) (view pass.new) }
+    ensures tells { Tells (view pass.old) (view pass.new) index query.now result }
+    ensures granted { is_granted result ≡ true }
+    ensures follows { Follows (view pass.old) (view pass.new) query.now said }
+{
+    let entry = Entry {
+        caller: pass.number(),
+        index,
+        query: *query,
+        said,
+    };
+    let reads_after = place_read(hall, pass, &entry);
+    Reply::Placed {
+        place: 2 * reads_after,
+        said,
+    }
+}
+
+// Draws the next number for a reply that is a write, and stores its log row.
+#[tactic(auto, using(crate::proofs::Replies::write_told, crate::proofs::Replies::write_follows))]
+fn tell_write(
+    hall: &Hall<MapCargo>,
+    pass: &mut Pass<MapCargo>,
+    index: u64,
+    query: &Query,
+    said: Said,
+) -> Reply
+    requires pass { IsPassOf hall.now pass.old }
+    requires suits { Suits hall.now }
+    requires may { MayDraw no_entries (cargo_of hall.now) (view pass.old) (entry_for (view pass.old).number index query.now said) }
+    requires quota { 1 ≤ (view pass.old).quota }
+    ensures pass { IsPassOf hall.now pass.new × Stays (view pass.old) (view pass.new) }
+    ensures tells { Tells (view pass.old) (view pass.new) index query.now result }
+    ensures granted { is_granted result ≡ true }
+    ensures follows { Follows (view pass.old) (view pass.new) query.now said }
+{
+    let entry = Entry {
+        caller: pass.number(),
+        index,
+        query: *query,
+        said,
+    };
+    let Ok(number) = draw(hall, pass, &entry) else {
+        unreachable!()
+    };
+    Reply::Placed {
+        place: 2 * number + 1,
+        said,
+    }
+}
+
+/// Tells what the plain maps say to a query whose cells the pass holds for writing: a write is drawn, and a read is placed.
+/// Afterwards the pass's plain maps are those that the reply leaves.
+#[tactic(auto, using(crate::proofs::Replies::may_place, crate::proofs::Replies::may_draw))]
+pub(crate) fn tell(
+    hall: &Hall<MapCargo>,
+    pass: &mut Pass<MapCargo>,
+    index: u64,
+    query: &Query,
+    said: Said,
+) -> Reply
+    requires pass { IsPassOf hall.now pass.old }
+    requires suits { Suits hall.now }
+    requires may { MayTell (cargo_of hall.now) (view pass.old) query.now said }
+    ensures pass { IsPassOf hall.now pass.new × Stays (view pass.old) (view pass.new) }
+    ensures tells { Tells (view pass.old) (view pass.new) index query.now result }
+    ensures granted { is_granted result ≡ true }
+    ensures follows { Follows (view pass.old) (view pass.new) query.now said }
+{
+    if is_write(said) {
+        tell_write(hall, pass, index, query, said)
+    } else {
+        tell_read(hall, pass, index, query, said)
+    }
+}
+
+/// Tells what was read in the one cell that the pass holds, and gives the cell back.
+#[tactic(auto, using(crate::proofs::Replies::tells_then, crate::proofs::Replies::idle_again))]
+pub(crate) fn answer_read(
+    hall: &Hall<MapCargo>,
+    pass: &mut Pass<MapCargo>,
+    ptr: ReadPtr,
+    index: u64,
+    query: &Query,
+    said: Said,
+) -> Reply
+    requires pass { IsPassOf hall.now pass.old }
+    requires suits { Suits hall.now }
+    requires cell { ptr.guard.lock < (shape_of hall.now).locks }
+    requires held { standing (view pass.old) ptr.guard.lock ≡ Inline }
+    requires only { OnlyAt ptr.guard.lock (view pass.old) }
+    requires may { MayPlace no_entries (cargo_of hall.now) (view pass.old) (entry_for (view pass.old).number index query.now said) }
+    requires rested { IsRested (view pass.old).part }
+    ensures pass { IsPassOf hall.now pass.new }
+    ensures idle { IsIdle (view pass.new) }
+    ensures tells { Tells (view pass.old) (view pass.new) index query.now result }
+    ensures granted { is_granted result ≡ true }
+{
+    let reply = tell_read(hall, pass, index, query, said);
+    leave_reading(hall, pass, ptr);
+    reply
+}
+
+/// Tells what was said in the one cell that the pass holds for writing, whose words are those that the reply leaves, and
+/// gives the cell back.
+#[tactic(auto, using(crate::proofs::Replies::tells_then, crate::proofs::Replies::idle_again, crate::proofs::Replies::settled_again))]
+pub(crate) fn answer(
+    hall: &Hall<MapCargo>,
+    pass: &mut Pass<MapCargo>,
+    ptr: WritePtr,
+    index: u64,
+    query: &Query,
+    said: Said,
+) -> Reply
+    requires pass { IsPassOf hall.now pass.old }
+    requires suits { Suits hall.now }
+    requires cell { ptr.guard.lock < (shape_of hall.now).locks }
+    requires held { standing (view pass.old) ptr.guard.lock ≡ Exclusive }
+    requires only { OnlyAt ptr.guard.lock (view pass.old) }
+    requires may { MayTell (cargo_of hall.now) (view pass.old) query.now said }
+    requires stored { Stored (view pass.old) ptr.guard.lock query.now said }
+    ensures pass { IsPassOf hall.now pass.new }
+    ensures idle { IsIdle (view pass.new) }
+    ensures tells { Tells (view pass.old) (view pass.new) index query.now result }
+    ensures granted { is_granted result ≡ true }
+{
+    let reply = tell(hall, pass, index, query, said);
+    leave_writing(hall, pass, ptr);
+    reply
+}
