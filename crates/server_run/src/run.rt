@@ -67,7 +67,16 @@ pub fn run_script<R: Wait, T: Clocks, G: Gate>(
     let room = Vec::with_capacity(alloc, queries.len())?;
     let mut lists = Vec::with_capacity(alloc, 1)?;
     let mut clock = clocks.clock(0);
-    let replies = ask_all(rt, &hall, &mut pass, &mut ledger, &mut clock, gate, queries, room);
+    let replies = ask_all(
+        rt,
+        &hall,
+        &mut pass,
+        &mut ledger,
+        &mut clock,
+        gate,
+        queries,
+        room,
+    );
     close(hall, pass);
     push_reserved(&mut lists, replies);
     let outcome = Outcome::of(lists);

@@ -34,4 +34,4 @@ returns-clause-history g c =
     history_one rows callers c.of-outcome-2.result queries replies c.callers-callers.ensures.script.one some
     (c.queries-queries.ensures ∙ ap (λ (l : List (List Query)). get_or l 0 []) c.callers-callers.ensures.value) told
     (history_alone rows c.count_jobs.result (view c.in_ok-hall.pass).number queries replies (view c.in_ok-hall.pass).part (view c.ask_all-replies.new.pass).part c.in_ok-ledger.ledger
-          (ap (λ (p : Part). p.seen) first.part) (ap (λ (p : Part). p.told) first.part) c.in_ok-ledger.ensures c.ask_all-replies.ensures.told whole)
+    (ap (λ (p : Part). p.seen) first.part) (ap (λ (p : Part). p.told) first.part) c.in_ok-ledger.ensures c.ask_all-replies.ensures.told whole)
