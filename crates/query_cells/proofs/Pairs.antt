@@ -56,7 +56,7 @@ pub either_order : (v : View Part) (low high a b : ℕ) (y : Standing) → InOrd
 either_order v low high a b y t h =
     let turned : HoldsTwo high low y v = record { first = h.second; second = h.first; others = λ k x z. h.others k z x; first_settled = h.second_settled; second_settled = h.first_settled } in
     ⊎_elim (λ e. subst (λ (i : ℕ). HoldsTwo i b y v) e.0 (subst (λ (j : ℕ). HoldsTwo low j y v) e.1 h))
-        (λ e. subst (λ (i : ℕ). HoldsTwo i b y v) e.1 (subst (λ (j : ℕ). HoldsTwo high j y v) e.0 turned)) t
+    (λ e. subst (λ (i : ℕ). HoldsTwo i b y v) e.1 (subst (λ (j : ℕ). HoldsTwo high j y v) e.0 turned)) t
 
 pub back_order : (v : View Part) (low high a b : ℕ) (y : Standing) → InOrder low high a b → HoldsTwo a b y v → HoldsTwo low high y v
 back_order v low high a b y t h = ⊎_elim (λ e. either_order v a b low high y (inl (sym e.0, sym e.1)) h) (λ e. either_order v a b low high y (inr (sym e.1, sym e.0)) h) t

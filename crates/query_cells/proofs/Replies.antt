@@ -35,7 +35,7 @@ use Rattle.query_cells.specs.Answers.{Follows, MayTell, OnlyAt, Stored, Tells, T
 adds_from : (n m index : ℕ) (q : Query) (reply : Reply) (p s r : Part) → n ≡ m → p.seen ≡ s.seen → p.told ≡ s.told → AddsReply n index q reply p r → AddsReply m index q reply s r
 adds_from n m index q (Placed place said) p s r number seen told h =
     let F : ℕ → ℕ → List Told → Type 0 = λ k a t. (w : ℕ) × (place ≡ place_of w said) × (a ≤ w)
-        × MatchBool (is_write said) ((r.seen ≡ w + 1) × (r.told ≡ Wrote w (entry_for k index q said) ∷ t)) ((r.seen ≡ w) × (r.told ≡ Read w (entry_for k index q said) ∷ t)) in
+    × MatchBool (is_write said) ((r.seen ≡ w + 1) × (r.told ≡ Wrote w (entry_for k index q said) ∷ t)) ((r.seen ≡ w) × (r.told ≡ Read w (entry_for k index q said) ∷ t)) in
     subst (λ (t : List Told). F m s.seen t) told (subst (λ (a : ℕ). F m a p.told) seen (subst (λ (k : ℕ). F k p.seen p.told) number h))
 adds_from n m index q Busy p s r number seen told h = (h.0 ∙ (λ i. Refused (number i) index q Busy ∷ told i), h.1 ∙ seen)
 adds_from n m index q (Late now) p s r number seen told h = (h.0 ∙ (λ i. Refused (number i) index q (Late now) ∷ told i), h.1 ∙ seen)

@@ -39,12 +39,7 @@ pub(crate) fn store(
 }
 
 /// Takes a key out.
-pub(crate) fn remove(
-    hall: &Hall<MapCargo>,
-    pass: &mut Pass<MapCargo>,
-    cell: u64,
-    key: u64,
-) -> Said
+pub(crate) fn remove(hall: &Hall<MapCargo>, pass: &mut Pass<MapCargo>, cell: u64, key: u64) -> Said
     requires pass { IsPassOf hall.now pass.old }
     requires suits { Suits hall.now }
     requires cell { cell < (cargo_of hall.now).cells }
