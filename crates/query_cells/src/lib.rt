@@ -17,6 +17,8 @@ mod ledger;
 mod refusable;
 mod single;
 mod telling;
+#[cfg(test)]
+mod tests;
 mod two;
 
 pub use asking::ask;
