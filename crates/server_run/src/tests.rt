@@ -1,6 +1,12 @@
 //! What no clause says: that runs succeed with ample memory, and worked examples of the statuses.
-use crate::serve_main;
-use ql_base::{ListClocks, MemSink, MemSource, OpenGate};
+ghost use Rattle.std.specs.List.{AllByRecursion};
+ghost use Rattle.query_rules.specs.Grammar.{TakesBelow};
+ghost use Rattle.query_log.specs.Plain.{cell_count};
+
+use crate::{Options, Policy, RunMode, run_script, serve_main};
+use ql_base::{ListClocks, MemSink, MemSource, NoMemory, OpenGate};
+use query_log::PlainMaps;
+use query_text::{Query, Reply, Said, parse_script};
 use std::alloc::{AllocError, Global};
 use std::sync::Wait;
 use std::thread::Threads;
@@ -104,5 +110,70 @@ fn wrong_words_write_nothing(rt: HostRuntime) -> Result<(), AllocError> {
     let (status, written) = run(&rt, &none, b"cells 1\n", &[], &[])?;
     assert_eq!(rt; status, 2);
     assert!(rt; written.is_empty());
+    Ok(())
+}
+
+// What plain maps say to the queries that ask maps.
+fn said_by_plain_maps(
+    alloc: Global,
+    maps: &mut PlainMaps,
+    queries: &[Query],
+) -> Result<Vec<Said>, NoMemory>
+    requires taken { AllByRecursion (TakesBelow (cell_count maps.old)) queries.now }
+{
+    let mut all = Vec::new(alloc);
+    let mut rest = queries;
+    while let [query, after @ ..] = rest {
+        if query.act().is_none() {
+            all.push(maps.ask(query)?)?;
+        }
+        rest = after;
+    }
+    Ok(all)
+}
+
+// What the placed replies say.
+fn said_in(alloc: Global, replies: &[Reply]) -> Result<Vec<Said>, NoMemory> {
+    let mut all = Vec::new(alloc);
+    for reply in replies {
+        if let Reply::Placed { said, .. } = *reply {
+            all.push(said)?;
+        }
+    }
+    Ok(all)
+}
+
+#[test]
+fn the_hall_says_what_plain_maps_say(rt: HostRuntime) -> Result<(), NoMemory> {
+    let alloc: Global = rt.alloc();
+    let text =
+        b"cells 2\ncaller\nput 0 1 5\nput 0 2 6\nput 0 3 7\nadd 0 1 2\ncas 0 1 7 9\ngive 4 10\nputlen 1 1 8\nmove 0 1 1 4\nboth 0 1 1\nboth 1 1 1\nmove 1 1 1 1\ntryput 1 2 3\ntryget 1 2\nputby 1 1 4 0\ngetby 1 1 0\ndel 0 2\nlen 0\nget 0 2\n";
+    let Ok(script) = parse_script(alloc, text) else {
+        return Err(NoMemory);
+    };
+    let options = Options {
+        mode: RunMode::Run,
+        rows: 2,
+        slots: 32,
+        combine: 64,
+        policy: Policy::WritePriority,
+        count: 1000,
+    };
+    let ran = run_script(
+        &rt,
+        alloc,
+        &script,
+        &options,
+        &ListClocks::new(&[0]),
+        &OpenGate,
+    )?;
+    let callers = script.callers();
+    assert_eq!(rt; callers.count(), 1);
+    assert_eq!(rt; ran.outcome.count(), 1);
+    let mut maps = PlainMaps::make(alloc, script.cells(), options.rows)?;
+    let plain = said_by_plain_maps(alloc, &mut maps, callers.queries(0))?;
+    let told = said_in(alloc, ran.outcome.replies(0))?;
+    assert_eq!(rt; told.len(), 17);
+    assert_eq!(rt; told.as_slice(), plain.as_slice());
     Ok(())
 }
