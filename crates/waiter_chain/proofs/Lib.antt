@@ -9,3 +9,10 @@ pub mod Numbers
 pub mod Closes
 pub mod Opens
 pub mod Hands
+pub mod Links
+pub mod Collects
+pub mod Serves
+pub mod Posts
+pub mod Ends
+pub mod Clears
+pub mod Takes
