@@ -2,7 +2,7 @@
 use Rattle.std.specs.Prelude.{◌≡◌, ℕ, ◌+◌, ◌-◌, ◌≤◌, Bool, true, false, [], ◌∷◌, ◌++◌, length, MatchBool, Some}
 use Rattle.hall.specs.declared.view.View.{View}
 use Rattle.query_rules.specs.declared.query.Query.{Query}
-use Rattle.query_rules.specs.declared.query.Query.TheVariants.{Get, Len, Put, Del, Add, Cas, PutLen, Move, Both, TryGet, TryPut, GetBy, PutBy, Give, Take, Audit}
+use Rattle.query_rules.specs.declared.query.Query.TheVariants.{GetBy, PutBy}
 use Rattle.query_rules.specs.declared.query.LedgerAct.{LedgerAct}
 use Rattle.query_rules.specs.declared.query.Said.{Said}
 use Rattle.query_rules.specs.declared.query.Reply.{Reply}
@@ -14,25 +14,6 @@ use Rattle.query_log.specs.Ledgers.{LedgerView, accounts_in, entry_of}
 use Rattle.map_cargo.specs.declared.entry.Entry.{Entry}
 use Rattle.map_cargo.specs.declared.entry.Told.TheVariants.{Wrote, Read, Refused}
 use Rattle.map_cargo.specs.declared.entry.Part.{Part}
-
--- the queries that may change a map
-abbrev pub may_write : Query → Bool
-may_write (Get cell key) = false
-may_write (Len cell) = false
-may_write (Put cell key value) = true
-may_write (Del cell key) = true
-may_write (Add cell key delta) = true
-may_write (Cas cell key old new) = true
-may_write (PutLen cell key value) = true
-may_write (Move from to key n) = true
-may_write (Both first second key) = false
-may_write (TryGet cell key) = false
-may_write (TryPut cell key value) = true
-may_write (GetBy cell key deadline) = false
-may_write (PutBy cell key value deadline) = true
-may_write (Give key n) = false
-may_write (Take key n) = false
-may_write Audit = false
 
 -- a reply that is a write
 abbrev pub tells_write : Reply → Bool

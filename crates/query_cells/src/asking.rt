@@ -3,8 +3,9 @@ ghost use Rattle.std.specs.Prelude.{◌≡◌, ◌+◌, ◌≤◌, true, MatchBo
 ghost use Rattle.hall.specs.Passes.{view, IsPassOf, shape_of, cargo_of};
 ghost use Rattle.query_rules.specs.Grammar.{TakesBelow};
 ghost use Rattle.query_rules.specs.History.{IsKindFor, asks_ledger};
+ghost use Rattle.query_rules.specs.Maps.{may_write};
 ghost use Rattle.map_cargo.specs.Steps.{Suits, IsIdle};
-ghost use Rattle.query_cells.specs.Asked.{AddsJob, AddsReply, IsLateBy, KeepsNumbers, is_granted, may_write, tells_write};
+ghost use Rattle.query_cells.specs.Asked.{AddsJob, AddsReply, IsLateBy, KeepsNumbers, is_granted, tells_write};
 
 use crate::ledger::ask_ledger;
 use crate::refusable::{ask_get_by, ask_put_by, ask_try_get, ask_try_put};

@@ -120,6 +120,25 @@ is_write (Short v) = false
 is_write Same = false
 is_write (Pair v w) = false
 
+-- the queries that may change a map
+abbrev pub may_write : Query → Bool
+may_write (Get cell key) = false
+may_write (Len cell) = false
+may_write (Put cell key value) = true
+may_write (Del cell key) = true
+may_write (Add cell key delta) = true
+may_write (Cas cell key old new) = true
+may_write (PutLen cell key value) = true
+may_write (Move from to key n) = true
+may_write (Both first second key) = false
+may_write (TryGet cell key) = false
+may_write (TryPut cell key value) = true
+may_write (GetBy cell key deadline) = false
+may_write (PutBy cell key value deadline) = true
+may_write (Give key n) = false
+may_write (Take key n) = false
+may_write Audit = false
+
 -- the first map of a move: a key that isn't there stays away
 abbrev pub less : PlainMap → ℕ → ℕ → PlainMap
 less m key n = if is_some (m.value_at key) then with_value m key (amount_at m key - n) else m

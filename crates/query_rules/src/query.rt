@@ -96,6 +96,24 @@ pub enum Query {
 
 impl Query {
     ghost use Rattle.query_rules.specs.Ledger.{act_of};
+    ghost use Rattle.query_rules.specs.Maps as maps;
+
+    /// Whether it may change a map: then it needs a write to draw, whatever its reply turns out to be.
+    pub fn may_write(&self) -> bool
+        ensures { result ≡ maps.may_write self.now }
+    {
+        matches!(
+            *self,
+            Query::Put { .. }
+                | Query::Del { .. }
+                | Query::Add { .. }
+                | Query::Cas { .. }
+                | Query::PutLen { .. }
+                | Query::Move { .. }
+                | Query::TryPut { .. }
+                | Query::PutBy { .. }
+        )
+    }
 
     /// What it asks of the ledger, where it doesn't ask the maps.
     pub fn act(&self) -> Option<LedgerAct>

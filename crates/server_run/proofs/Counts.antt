@@ -8,11 +8,11 @@ use Rattle.query_rules.specs.declared.query.Said.{Said}
 use Rattle.query_rules.specs.declared.query.Said.TheVariants as said
 use Rattle.query_rules.specs.declared.query.Reply.{Reply}
 use Rattle.query_rules.specs.declared.query.Reply.TheVariants.{Placed, Busy, Late, Job}
-use Rattle.query_rules.specs.Maps.{is_write}
+use Rattle.query_rules.specs.Maps.{is_write, may_write}
 use Rattle.query_rules.specs.Ledger.{act_of}
 use Rattle.query_rules.specs.History.{IsKindFor, has_said, is_value, is_count, is_both, asks_ledger}
 use Rattle.query_log.specs.Ledgers.{LedgerView}
-use Rattle.query_cells.specs.Asked.{AddsJob, may_write, tells_write}
+use Rattle.query_cells.specs.Asked.{AddsJob, tells_write}
 use Rattle.server_run.specs.Alone.{jobs_of, writes_of}
 
 never : {A : Type 0} → false ≡ true → A

@@ -6,7 +6,7 @@ use Rattle.query_rules.specs.declared.query.Said.{Said}
 use Rattle.query_rules.specs.declared.query.LedgerAct.{LedgerAct}
 use Rattle.query_rules.specs.declared.query.Reply.{Reply}
 use Rattle.query_rules.specs.declared.query.Reply.TheVariants.{Placed, Busy, Late, Job}
-use Rattle.query_rules.specs.Maps.{is_write}
+use Rattle.query_rules.specs.Maps.{is_write, may_write}
 use Rattle.query_rules.specs.Ledger.{Accounts, act_of, result_of, accounts_of}
 use Rattle.query_rules.specs.History.{place_of, IsKindFor}
 use Rattle.query_log.specs.Ledgers.{LedgerView, accounts_in}
@@ -14,7 +14,7 @@ use Rattle.map_cargo.specs.declared.entry.Part.{Part}
 use Rattle.map_cargo.specs.declared.entry.Entry.{Entry}
 use Rattle.map_cargo.specs.declared.entry.Told.{Told}
 use Rattle.map_cargo.specs.declared.entry.Told.TheVariants.{Wrote, Read}
-use Rattle.query_cells.specs.Asked.{may_write, entry_for}
+use Rattle.query_cells.specs.Asked.{entry_for}
 
 -- how many of these ask the ledger
 abbrev pub jobs_of : List Query → ℕ

@@ -1,7 +1,6 @@
 // What a run needs, made before its first query.
 ghost use Rattle.std.specs.Prelude.{◌≡◌, ◌≤◌, ◌<◌, [], IfOk};
 ghost use Rattle.hall.specs.Passes.{view, IsPassOf, cargo_of};
-ghost use Rattle.query_cells.specs.Asked as asked;
 ghost use Rattle.server_run.specs.Alone.{writes_of, jobs_of};
 ghost use Rattle.server_run.specs.Rooms.{HasOneSeat, IsFirst};
 
@@ -60,22 +59,5 @@ pub fn count_jobs(queries: &[Query]) -> u64
 pub fn count_writes(queries: &[Query]) -> u64
     ensures { result ≡ writes_of queries.now }
 {
-    queries.iter().filter(|query| may_write(query)).count() as u64
-}
-
-// Whether a query may change a map.
-fn may_write(query: &Query) -> bool
-    ensures { result ≡ asked.may_write query.now }
-{
-    matches!(
-        *query,
-        Query::Put { .. }
-            | Query::Del { .. }
-            | Query::Add { .. }
-            | Query::Cas { .. }
-            | Query::PutLen { .. }
-            | Query::Move { .. }
-            | Query::TryPut { .. }
-            | Query::PutBy { .. }
-    )
+    queries.iter().filter(|query| query.may_write()).count() as u64
 }
