@@ -2,11 +2,13 @@
 use Rattle.std.specs.Prelude.{◌≡◌, ◌≢◌, ℕ, ◌<◌, ◌≤◌, ◌⊎◌, Bool, true, false, List, [], ◌∷◌, MatchBool}
 use Rattle.std.proofs.Common.{refl, sym, ap, ◌∙◌, subst, ⊎_elim}
 use Rattle.lock_model.specs.Locks.{Has}
+use Rattle.hall.specs.declared.view.Kind.TheVariants.{Load}
 use Rattle.hall.specs.declared.view.Shape.{Shape}
 use Rattle.hall.specs.declared.view.Standing.TheVariants.{Away}
 use Rattle.hall.specs.declared.view.StepEntry.{StepEntry}
 use Rattle.hall.specs.declared.view.View.{View}
-use Rattle.hall.specs.Views.{standing}
+use Rattle.hall.specs.Views.{entry_of, standing}
+use Rattle.shared_mutex.specs.Refused.{reads_in_all, reads_then}
 use Rattle.query_rules.specs.declared.query.Query.{Query}
 use Rattle.query_rules.specs.declared.query.Query.TheVariants as query
 use Rattle.query_rules.specs.declared.query.Reply.{Reply}
@@ -17,9 +19,9 @@ use Rattle.map_cargo.specs.declared.entry.Part.{Part}
 use Rattle.map_cargo.specs.Entries.{named_cells}
 use Rattle.map_cargo.specs.Gaining.{everywhere}
 use Rattle.map_cargo.specs.History.{IsRested}
-use Rattle.map_cargo.specs.Licences.{Licensed, MayRefuse}
+use Rattle.map_cargo.specs.Licences.{Licensed, LoadedOnce, MayRefuse, licence_joined, still_licensed}
 use Rattle.map_cargo.specs.Steps.{Alike, IsIdle, told_too}
-use Rattle.query_cells.specs.Asked.{AddsReply, is_job, tells_write, is_granted, IsLateBy}
+use Rattle.query_cells.specs.Asked.{AddsReply, IsForced, IsLateBy, WasRefused, is_granted, is_job, tells_write}
 use Rattle.query_cells.specs.Answers.{Tells, TellsNothing, TurnedAway}
 
 -- what a licensed reply is
@@ -70,12 +72,33 @@ one_in : (P : ℕ → Type 0) (a k : ℕ) → Has (a ∷ []) k → P a → P k
 one_in P a k has x = ⊎_elim (λ e. subst P (sym e) x) (λ bad. absurd bad) has
 
 -- a query of one cell that its lock refused
-pub may_refuse : (v w : View Part) (q : Query) (cell locks : ℕ) (reply : Reply) → named_cells q ≡ cell ∷ [] → w.shape.locks ≡ locks → cell < locks → TurnedAway cell v w → Licensed w.shape w.number w.steps q reply → MayRefuse w q reply
-may_refuse v w q cell locks reply names is near away licence = record {
+pub may_refuse : (v w : View Part) (q : Query) (cell locks : ℕ) (reply : Reply) → named_cells q ≡ cell ∷ [] → w.shape ≡ v.shape → w.shape.locks ≡ locks → cell < locks → TurnedAway cell v w → WasRefused q reply v w → MayRefuse w q reply
+may_refuse v w q cell locks reply names same is near away refused = record {
   near = λ k has. one_in (λ (i : ℕ). i < w.shape.locks) cell k (subst (λ (l : List ℕ). Has l k) names has) (subst (λ (n : ℕ). cell < n) (sym is) near);
   away = λ k has. one_in (λ (i : ℕ). standing w i ≡ Away) cell k (subst (λ (l : List ℕ). Has l k) names has) away.away;
-  licence = licence;
+  licence = reads_in_all (λ shape number steps. Licensed shape number steps q reply) (λ shape number steps others. licence_joined shape number steps others q reply) v w same away.nothing.number refused;
 }
+
+-- after the tries that were refused, telling so adds one load
+refused_then : (v u w : View Part) (q : Query) (reply : Reply) → WasRefused q reply v u → LoadedOnce q u w → WasRefused q reply v w
+refused_then v u w q reply refused load =
+    reads_then (λ shape number steps. Licensed shape number steps q reply) (λ shape number added steps. still_licensed shape number added steps q reply) v u w refused (entry_of u Load load.0 load.1 false ∷ [], load.3)
+
+forced_by : (v w : View Part) (q : Query) (reply : Reply) → WasRefused q reply v w → IsForced q reply v w
+forced_by v w q (Placed place said) refused = tt
+forced_by v w q Busy refused = refused
+forced_by v w q (Late now) refused = refused
+forced_by v w q (Job at result) refused = tt
+
+pub is_forced : (v u w : View Part) (q : Query) (reply told : Reply) → told ≡ reply → WasRefused q reply v u → LoadedOnce q u w → IsForced q told v w
+is_forced v u w q reply told is refused load = subst (λ (r : Reply). IsForced q r v w) (sym is) (forced_by v w q reply (refused_then v u w q reply refused load))
+
+-- a reply that was granted was forced by nothing
+pub granted_unforced : (v w : View Part) (q : Query) (reply : Reply) → is_granted reply ≡ true → IsForced q reply v w
+granted_unforced v w q (Placed place said) e = tt
+granted_unforced v w q Busy e = absurd (cc)
+granted_unforced v w q (Late now) e = absurd (cc)
+granted_unforced v w q (Job at result) e = tt
 
 -- a reply that was granted isn't late
 pub granted_in_time : (q : Query) (last : ℕ) (reply : Reply) → is_granted reply ≡ true → IsLateBy q last reply

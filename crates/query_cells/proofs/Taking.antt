@@ -14,7 +14,8 @@ use Rattle.hall.specs.Plays.{Retracts}
 use Rattle.hall.specs.Refusals.{BusyForReading, BusyForWriting, ReadTwoWords}
 use Rattle.hall.specs.Views.{after_look, after_step, standing}
 use Rattle.shared_mutex.specs.Acquiring.{AnnouncesWriter, ElsewhereSame, FoundReaders, RefusesAnnouncing, RefusesExclusive, RefusesShared}
-use Rattle.shared_mutex.specs.Refused.{ReadAsReader, ReadAsWriter}
+use Rattle.shared_mutex.specs.Refused.{AddsReads, GoesOn, ReadAsReader, ReadAsWriter, goes_on_none, goes_on_once, goes_on_then, joined_as_reader, joined_as_writer, reads_after}
+use Rattle.sync_cell.specs.Refused.{looked_goes_on}
 use Rattle.sync_cell.specs.Tries.{AnnouncesAtLast, GivesUp, OnlyLooked, WritersRefused}
 use Rattle.sync_cell.specs.TryLaws.{reader_looked, writer_looked}
 use Rattle.sync_cell.specs.Waits.{GaveUpLate}
@@ -28,33 +29,33 @@ use Rattle.query_cells.specs.Answers.{TellsNothing, Took, TurnedAway}
 -- steps that left all that the pass knows and has to draw
 pub record Unchanged (v w : View Part) : Type 0 where
   pub part : w.part ≡ v.part
-  pub number : w.number ≡ v.number
   pub quota : w.quota ≡ v.quota
   pub span : w.span ≡ v.span
   pub taken : w.taken ≡ v.taken
+  pub goes_on : GoesOn v w
 
 pub unchanged_none : (v : View Part) → Unchanged v v
-unchanged_none v = record { part = refl; number = refl; quota = refl; span = refl; taken = refl }
+unchanged_none v = record { part = refl; quota = refl; span = refl; taken = refl; goes_on = goes_on_none v v refl }
 
 pub unchanged_then : (v u w : View Part) → Unchanged v u → Unchanged u w → Unchanged v w
-unchanged_then v u w a b = record { part = b.part ∙ a.part; number = b.number ∙ a.number; quota = b.quota ∙ a.quota; span = b.span ∙ a.span; taken = b.taken ∙ a.taken }
+unchanged_then v u w a b = record { part = b.part ∙ a.part; quota = b.quota ∙ a.quota; span = b.span ∙ a.span; taken = b.taken ∙ a.taken; goes_on = goes_on_then v u w a.goes_on b.goes_on }
 
 pub unchanged_look : (v w : View Part) (lock : ℕ) → OnlyLooked v lock w → Unchanged v w
-unchanged_look v w lock looked = record { part = looked.part; number = looked.number; quota = looked.quota; span = looked.span; taken = looked.taken }
+unchanged_look v w lock looked = record { part = looked.part; quota = looked.quota; span = looked.span; taken = looked.taken; goes_on = looked_goes_on v w lock looked }
 
 unchanged_step : (v w : View Part) (kind : Kind) (lock word : ℕ) (won : Bool) (y : Standing) → w ≡ after_step v kind lock word won y v.part → Unchanged v w
 unchanged_step v w kind lock word won y is = record {
   part = ap (λ (z : View Part). z.part) is;
-  number = ap (λ (z : View Part). z.number) is;
   quota = ap (λ (z : View Part). z.quota) is;
   span = ap (λ (z : View Part). z.span) is;
   taken = ap (λ (z : View Part). z.taken) is;
+  goes_on = goes_on_once v w kind lock word won y v.part is;
 }
 
 -- such steps tell nothing
 pub unchanged_tells : (v w : View Part) → Unchanged v w → TellsNothing v w
 unchanged_tells v w h = record {
-  number = h.number;
+  number = h.goes_on.number;
   span = h.span;
   taken = h.taken;
   quota = h.quota;
@@ -65,7 +66,7 @@ unchanged_tells v w h = record {
 }
 
 pub gained_later : (lock : ℕ) (v u w : View Part) → Unchanged v u → Gained no_entries lock u w → Gained no_entries lock v w
-gained_later lock v u w h got = gained_from no_entries lock u v w h.part h.number h.quota h.span h.taken got
+gained_later lock v u w h got = gained_from no_entries lock u v w h.part h.goes_on.number h.quota h.span h.taken got
 
 module _ (g : Ghosts MapCargo Part) where
   pub reader_unchanged : (v : View Part) (lock : ℕ) (w : View Part) (f : TryFault) → RefusesShared g v lock w f → Unchanged v w
@@ -95,13 +96,22 @@ module _ (g : Ghosts MapCargo Part) where
   late_unchanged last answers deadline lock v w old new fault now r = ⊎_elim (λ t. unchanged_look v w lock t.2) (λ t. gave_up v lock t.0 (fault ∷ t.1) w t.2) r
 
 -- what a late reader and a late writer read
-pub late_reads : (w : View Part) (lock : ℕ) (fault : TryFault) → ReadAsReader w lock fault → BusyForReading w.shape w.number w.steps lock ⊎ ReadTwoWords w.shape w.number w.steps lock
-late_reads w lock (Busy word) r = inl r
-late_reads w lock (Raced expected found) r = inr r
+pub late_reads : (v w : View Part) (lock : ℕ) (fault : TryFault) → AddsReads (ReadAsReader lock fault) v w → AddsReads (λ shape number added. BusyForReading shape number added lock ⊎ ReadTwoWords shape number added lock) v w
+late_reads v w lock (Busy word) r = (r.0, r.1, inl r.2)
+late_reads v w lock (Raced expected found) r = (r.0, r.1, inr r.2)
 
-pub late_writes : (w : View Part) (lock : ℕ) (fault : TryFault) → ReadAsWriter w lock fault → BusyForWriting w.shape w.number w.steps lock ⊎ ReadTwoWords w.shape w.number w.steps lock
-late_writes w lock (Busy word) r = inl r
-late_writes w lock (Raced expected found) r = inr r
+pub late_writes : (v w : View Part) (lock : ℕ) (fault : TryFault) → AddsReads (ReadAsWriter lock fault) v w → AddsReads (λ shape number added. BusyForWriting shape number added lock ⊎ ReadTwoWords shape number added lock) v w
+late_writes v w lock (Busy word) r = (r.0, r.1, inl r.2)
+late_writes v w lock (Raced expected found) r = (r.0, r.1, inr r.2)
+
+-- what a reader or a writer read that was busy after other tries
+pub busy_reads : (v u w : View Part) (lock : ℕ) (fault : TryFault) (word : ℕ) → fault ≡ Busy word → Unchanged v u → AddsReads (ReadAsReader lock fault) u w → AddsReads (λ shape number added. BusyForReading shape number added lock) v w
+busy_reads v u w lock fault word is before r =
+    reads_after (ReadAsReader lock (Busy word)) (joined_as_reader lock (Busy word)) v u w before.goes_on (subst (λ (f : TryFault). AddsReads (ReadAsReader lock f) u w) is r)
+
+pub busy_writes : (v u w : View Part) (lock : ℕ) (fault : TryFault) (word : ℕ) → fault ≡ Busy word → Unchanged v u → AddsReads (ReadAsWriter lock fault) u w → AddsReads (λ shape number added. BusyForWriting shape number added lock) v w
+busy_writes v u w lock fault word is before r =
+    reads_after (ReadAsWriter lock (Busy word)) (joined_as_writer lock (Busy word)) v u w before.goes_on (subst (λ (f : TryFault). AddsReads (ReadAsWriter lock f) u w) is r)
 
 -- a pass that wasn't let in after tries
 pub turned_away : (v u w : View Part) (lock : ℕ) → Unchanged v u → Unchanged u w → ElsewhereSame v u lock → ElsewhereSame u w lock → standing w lock ≡ Away → TurnedAway lock v w

@@ -1,5 +1,6 @@
 -- What one query leaves of the pass that asks it.
-use Rattle.std.specs.Prelude.{◌≡◌, ℕ, ◌+◌, ◌-◌, ◌≤◌, Bool, true, false, [], ◌∷◌, ◌++◌, length, MatchBool, Some}
+use Rattle.std.specs.Prelude.{◌≡◌, ℕ, ◌+◌, ◌-◌, ◌≤◌, Bool, true, false, List, [], ◌∷◌, ◌++◌, length, MatchBool, Some}
+use Rattle.hall.specs.declared.view.StepEntry.{StepEntry}
 use Rattle.hall.specs.declared.view.View.{View}
 use Rattle.query_rules.specs.declared.query.Query.{Query}
 use Rattle.query_rules.specs.declared.query.Query.TheVariants.{GetBy, PutBy}
@@ -14,6 +15,7 @@ use Rattle.query_log.specs.Ledgers.{LedgerView, accounts_in, entry_of}
 use Rattle.map_cargo.specs.declared.entry.Entry.{Entry}
 use Rattle.map_cargo.specs.declared.entry.Told.TheVariants.{Wrote, Read, Refused}
 use Rattle.map_cargo.specs.declared.entry.Part.{Part}
+use Rattle.map_cargo.specs.Licences.{Licensed}
 
 -- a reply that is a write
 abbrev pub tells_write : Reply → Bool
@@ -74,6 +76,17 @@ IsLateBy q last (Late now) = (deadline_of q ≤ now) × (now ≡ last)
 IsLateBy q last (Placed place said) = Unit {0}
 IsLateBy q last Busy = Unit {0}
 IsLateBy q last (Job at result) = Unit {0}
+
+-- the pass made steps, and among them are reads of a word of the query's cell, under the pass's number, that allow this reply
+abbrev pub WasRefused : Query → Reply → View Part → View Part → Type 0
+WasRefused q reply v w = (added : List StepEntry) × (w.steps ≡ added ++ v.steps) × Licensed v.shape v.number added q reply
+
+-- a refused reply was forced by what the call itself read
+abbrev pub IsForced : Query → Reply → View Part → View Part → Type 0
+IsForced q Busy v w = WasRefused q Busy v w
+IsForced q (Late now) v w = WasRefused q (Late now) v w
+IsForced q (Placed place said) v w = Unit {0}
+IsForced q (Job at result) v w = Unit {0}
 
 -- the numbers of a pass stay
 pub record KeepsNumbers (v w : View Part) : Type 0 where

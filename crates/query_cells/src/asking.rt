@@ -5,7 +5,7 @@ ghost use Rattle.query_rules.specs.Grammar.{TakesBelow};
 ghost use Rattle.query_rules.specs.History.{IsKindFor, asks_ledger};
 ghost use Rattle.query_rules.specs.Maps.{may_write};
 ghost use Rattle.map_cargo.specs.Steps.{Suits, IsIdle};
-ghost use Rattle.query_cells.specs.Asked.{AddsJob, AddsReply, IsLateBy, KeepsNumbers, is_granted, tells_write};
+ghost use Rattle.query_cells.specs.Asked.{AddsJob, AddsReply, IsForced, IsLateBy, KeepsNumbers, is_granted, tells_write};
 
 use crate::ledger::ask_ledger;
 use crate::refusable::{ask_get_by, ask_put_by, ask_try_get, ask_try_put};
@@ -24,7 +24,8 @@ use std::sync::Wait;
 /// `del`, `add`, `cas`, `putlen` and `move` for writing. Two cells are taken one after the other, the lower number first,
 /// and two that are the same one aren't taken. `tryget` and `tryput` try, again where another pass came between, and are
 /// `Busy` where the lock's word conflicted. `getby` and `putby` wait until the clock told the deadline or later, and are
-/// then `Late`. In a hall with one seat no query is `Busy` or `Late`.
+/// then `Late`. Both come only with words of the cell that this call read and for which its lock refuses, so in a hall
+/// with one seat no query is `Busy` or `Late`.
 ///
 /// A placed reply is told while its cells are held, and the pass has one write less to draw where it is one. A refused one
 /// is told without a place. `give`, `take` and `audit` are jobs of the ledger, and leave the pass as it was.
@@ -55,6 +56,7 @@ pub fn ask<R: Wait, T: Clock>(
     ensures told { AddsReply (view pass.old).number index query.now result (view pass.old).part (view pass.new).part }
     ensures ledger { AddsJob (view pass.old).number index query.now result ledger.old ledger.new }
     ensures late { IsLateBy query.now (T.last clock.new) result }
+    ensures forced { IsForced query.now result (view pass.old) (view pass.new) }
     ensures alone { (shape_of hall.now).seats ≡ 1 → is_granted result ≡ true }
 {
     match *query {

@@ -4,6 +4,7 @@ ghost use Rattle.hall.specs.Passes.{view, IsPassOf, shape_of};
 ghost use Rattle.hall.specs.Refusals.{BusyForReading, BusyForWriting, ReadTwoWords};
 ghost use Rattle.hall.specs.Views.{standing};
 ghost use Rattle.hall.specs.declared.view.Standing.TheVariants.{Away, Inline, Exclusive};
+ghost use Rattle.shared_mutex.specs.Refused.{AddsReads};
 ghost use Rattle.query_cells.specs.Answers.{Took, TurnedAway};
 
 use hall::{Hall, Pass, TryFault};
@@ -26,9 +27,9 @@ pub(crate) fn try_to_read<R: Wait>(
     requires away { standing (view pass.old) cell ≡ Away }
     ensures pass { IsPassOf hall.now pass.new }
     ensures taken { MatchOption result (TurnedAway cell (view pass.old) (view pass.new)) (λ ptr. (ptr.guard.lock ≡ cell) × Took cell Inline (view pass.old) (view pass.new)) }
-    ensures busy { MatchOption result (BusyForReading (view pass.new).shape (view pass.new).number (view pass.new).steps cell) (λ _. ⊤) }
+    ensures busy { MatchOption result (AddsReads (λ shape number added. BusyForReading shape number added cell) (view pass.old) (view pass.new)) (λ _. ⊤) }
 {
-    'trying: for _ in rt.forever() {
+    for _ in rt.forever() {
         match try_rlock(hall, pass, cell) {
             Ok(ptr) => return Some(ptr),
             Err(TryFault::Busy { .. }) => return None,
@@ -51,9 +52,9 @@ pub(crate) fn try_to_write<R: Wait>(
     requires away { standing (view pass.old) cell ≡ Away }
     ensures pass { IsPassOf hall.now pass.new }
     ensures taken { MatchOption result (TurnedAway cell (view pass.old) (view pass.new)) (λ ptr. (ptr.guard.lock ≡ cell) × Took cell Exclusive (view pass.old) (view pass.new)) }
-    ensures busy { MatchOption result (BusyForWriting (view pass.new).shape (view pass.new).number (view pass.new).steps cell) (λ _. ⊤) }
+    ensures busy { MatchOption result (AddsReads (λ shape number added. BusyForWriting shape number added cell) (view pass.old) (view pass.new)) (λ _. ⊤) }
 {
-    'trying: for _ in rt.forever() {
+    for _ in rt.forever() {
         match try_wlock(hall, pass, cell) {
             Ok(ptr) => return Some(ptr),
             Err(TryFault::Busy { .. }) => return None,
@@ -79,7 +80,7 @@ pub(crate) fn read_until<R: Wait, T: Clock>(
     ensures pass { IsPassOf hall.now pass.new }
     ensures taken { MatchResult result (λ ptr. (ptr.guard.lock ≡ cell) × Took cell Inline (view pass.old) (view pass.new)) (λ _. TurnedAway cell (view pass.old) (view pass.new)) }
     ensures late { MatchResult result (λ _. ⊤) (λ now. (deadline ≤ now) × (now ≡ T.last clock.new)) }
-    ensures reads { MatchResult result (λ _. ⊤) (λ _. BusyForReading (view pass.new).shape (view pass.new).number (view pass.new).steps cell ⊎ ReadTwoWords (view pass.new).shape (view pass.new).number (view pass.new).steps cell) }
+    ensures reads { MatchResult result (λ _. ⊤) (λ _. AddsReads (λ shape number added. BusyForReading shape number added cell ⊎ ReadTwoWords shape number added cell) (view pass.old) (view pass.new)) }
 {
     match rlock_until(rt, hall, pass, cell, clock, deadline) {
         Ok(ptr) => Ok(ptr),
@@ -103,7 +104,7 @@ pub(crate) fn write_until<R: Wait, T: Clock>(
     ensures pass { IsPassOf hall.now pass.new }
     ensures taken { MatchResult result (λ ptr. (ptr.guard.lock ≡ cell) × Took cell Exclusive (view pass.old) (view pass.new)) (λ _. TurnedAway cell (view pass.old) (view pass.new)) }
     ensures late { MatchResult result (λ _. ⊤) (λ now. (deadline ≤ now) × (now ≡ T.last clock.new)) }
-    ensures reads { MatchResult result (λ _. ⊤) (λ _. BusyForWriting (view pass.new).shape (view pass.new).number (view pass.new).steps cell ⊎ ReadTwoWords (view pass.new).shape (view pass.new).number (view pass.new).steps cell) }
+    ensures reads { MatchResult result (λ _. ⊤) (λ _. AddsReads (λ shape number added. BusyForWriting shape number added cell ⊎ ReadTwoWords shape number added cell) (view pass.old) (view pass.new)) }
 {
     match wlock_until(rt, hall, pass, cell, clock, deadline) {
         Ok(ptr) => Ok(ptr),

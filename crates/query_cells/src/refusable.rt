@@ -2,9 +2,9 @@
 ghost use Rattle.std.specs.Prelude.{◌≡◌, ◌≢◌, ◌<◌, ◌≤◌, ℕ, true};
 ghost use Rattle.hall.specs.Passes.{view, IsPassOf, shape_of, cargo_of};
 ghost use Rattle.query_rules.specs.declared.query.Query.{Query};
-ghost use Rattle.map_cargo.specs.Licences.{MayRefuse};
+ghost use Rattle.map_cargo.specs.Licences.{LoadedOnce, MayRefuse};
 ghost use Rattle.map_cargo.specs.Steps.{Suits, IsIdle};
-ghost use Rattle.query_cells.specs.Asked.{IsLateBy, is_granted};
+ghost use Rattle.query_cells.specs.Asked.{IsForced, IsLateBy, is_granted};
 ghost use Rattle.query_cells.specs.Answers.{Tells};
 
 use crate::attempts::{read_until, try_to_read, try_to_write, write_until};
@@ -30,6 +30,7 @@ fn refuse(
     ensures pass { IsPassOf hall.now pass.new × IsIdle (view pass.new) }
     ensures tells { Tells (view pass.old) (view pass.new) index query.now result }
     ensures reply { result ≡ reply }
+    ensures load { LoadedOnce query.now (view pass.old) (view pass.new) }
     ensures others { 1 < (shape_of hall.now).seats }
 {
     note_refused(hall, pass, index, query, &reply);
@@ -50,6 +51,7 @@ pub(crate) fn ask_try_get<R: Wait>(
     requires idle { IsIdle (view pass.old) }
     ensures pass { IsPassOf hall.now pass.new × IsIdle (view pass.new) }
     ensures tells { Tells (view pass.old) (view pass.new) index (Query.TryGet cell key) result }
+    ensures forced { IsForced (Query.TryGet cell key) result (view pass.old) (view pass.new) }
     ensures alone { (shape_of hall.now).seats ≡ 1 → is_granted result ≡ true }
     ensures late { (last : ℕ) → IsLateBy (Query.TryGet cell key) last result }
 {
@@ -76,6 +78,7 @@ pub(crate) fn ask_try_put<R: Wait>(
     requires quota { 1 ≤ (view pass.old).quota }
     ensures pass { IsPassOf hall.now pass.new × IsIdle (view pass.new) }
     ensures tells { Tells (view pass.old) (view pass.new) index (Query.TryPut cell key value) result }
+    ensures forced { IsForced (Query.TryPut cell key value) result (view pass.old) (view pass.new) }
     ensures alone { (shape_of hall.now).seats ≡ 1 → is_granted result ≡ true }
     ensures late { (last : ℕ) → IsLateBy (Query.TryPut cell key value) last result }
 {
@@ -102,6 +105,7 @@ pub(crate) fn ask_get_by<R: Wait, T: Clock>(
     requires idle { IsIdle (view pass.old) }
     ensures pass { IsPassOf hall.now pass.new × IsIdle (view pass.new) }
     ensures tells { Tells (view pass.old) (view pass.new) index (Query.GetBy cell key deadline) result }
+    ensures forced { IsForced (Query.GetBy cell key deadline) result (view pass.old) (view pass.new) }
     ensures alone { (shape_of hall.now).seats ≡ 1 → is_granted result ≡ true }
     ensures late { IsLateBy (Query.GetBy cell key deadline) (T.last clock.new) result }
 {
@@ -134,6 +138,7 @@ pub(crate) fn ask_put_by<R: Wait, T: Clock>(
     requires quota { 1 ≤ (view pass.old).quota }
     ensures pass { IsPassOf hall.now pass.new × IsIdle (view pass.new) }
     ensures tells { Tells (view pass.old) (view pass.new) index (Query.PutBy cell key value deadline) result }
+    ensures forced { IsForced (Query.PutBy cell key value deadline) result (view pass.old) (view pass.new) }
     ensures alone { (shape_of hall.now).seats ≡ 1 → is_granted result ≡ true }
     ensures late { IsLateBy (Query.PutBy cell key value deadline) (T.last clock.new) result }
 {

@@ -9,12 +9,13 @@ ghost use Rattle.query_rules.specs.Verbs.{arity, query_of};
 ghost use Rattle.map_cargo.specs.Steps.{Suits, IsIdle};
 
 use crate::ask;
-use crate::holding::{hold_for_writing, leave_writing};
+use crate::holding::{hold_for_reading, hold_for_writing, leave_reading, leave_writing};
 use hall::{Hall, Pass, Policy};
 use map_cargo::MapCargo;
 use ql_base::{ListClock, NoMemory};
 use query_log::{Ledger, LedgerOut, PlainMaps};
-use query_rules::{Query, Reply, Verb};
+use query_rules::{Query, Reply, Said, Verb};
+use shared_mutex::{announce, retract};
 use std::alloc::Global;
 use std::process::Abort;
 use std::sync::Wait;
@@ -28,7 +29,7 @@ struct Asker {
 }
 
 // A hall of two cells for two seats, with more writes than a test asks, and its first pass.
-fn open(alloc: Global) -> Result<(Hall<MapCargo>, Pass<MapCargo>), NoMemory>
+fn open(alloc: Global, policy: Policy) -> Result<(Hall<MapCargo>, Pass<MapCargo>), NoMemory>
     ensures pass { IfOk result (λ t. IsPassOf t.0 t.1) }
     ensures idle { IfOk result (λ t. IsIdle (view t.1)) }
     ensures suits { IfOk result (λ t. Suits t.0) }
@@ -40,7 +41,7 @@ fn open(alloc: Global) -> Result<(Hall<MapCargo>, Pass<MapCargo>), NoMemory>
         rows: 4,
         writes: 20,
     };
-    match Hall::make(alloc, 2, 1, Policy::WritePriority, 2, 20, cargo) {
+    match Hall::make(alloc, 2, 1, policy, 2, 20, cargo) {
         Ok(made) => Ok(made),
         Err(_) => Err(NoMemory),
     }
@@ -102,7 +103,7 @@ fn both_say<R: Abort + Wait>(
 // Each query of one cell that waits, once.
 #[test]
 fn one_cell_says_what_plain_maps_say(rt: HostRuntime) -> Result<(), NoMemory> {
-    let (hall, pass) = open(rt.alloc())?;
+    let (hall, pass) = open(rt.alloc(), Policy::WritePriority)?;
     let mut asker = Asker {
         pass,
         ledger: Ledger::make(rt.alloc(), 1, 1)?,
@@ -138,7 +139,7 @@ fn one_cell_says_what_plain_maps_say(rt: HostRuntime) -> Result<(), NoMemory> {
 // The queries of two cells, and those that may be refused.
 #[test]
 fn two_cells_say_what_plain_maps_say(rt: HostRuntime) -> Result<(), NoMemory> {
-    let (hall, pass) = open(rt.alloc())?;
+    let (hall, pass) = open(rt.alloc(), Policy::WritePriority)?;
     let mut asker = Asker {
         pass,
         ledger: Ledger::make(rt.alloc(), 1, 1)?,
@@ -189,7 +190,7 @@ fn two_cells_say_what_plain_maps_say(rt: HostRuntime) -> Result<(), NoMemory> {
 // The jobs of one pass: what each leaves of the one account.
 #[test]
 fn jobs_keep_one_account(rt: HostRuntime) -> Result<(), NoMemory> {
-    let (hall, pass) = open(rt.alloc())?;
+    let (hall, pass) = open(rt.alloc(), Policy::WritePriority)?;
     let mut asker = Asker {
         pass,
         ledger: Ledger::make(rt.alloc(), 1, 3)?,
@@ -209,46 +210,160 @@ fn jobs_keep_one_account(rt: HostRuntime) -> Result<(), NoMemory> {
     Ok(())
 }
 
-// A pass holds the cell for writing when another asks: tries are busy, and waits are late at the deadline or after it.
-#[test]
-fn a_held_cell_refuses(rt: HostRuntime) -> Result<(), NoMemory> {
-    let (hall, first) = open(rt.alloc())?;
-    let mut holder = first;
-    let pass = hall.split(&mut holder, 1, 20);
-    let mut asker = Asker {
-        pass,
-        ledger: Ledger::make(rt.alloc(), 1, 1)?,
-        clock: ListClock::new(vec![in rt.alloc(); 3, 5, 2, 9]?),
-    };
-    let held = hold_for_writing(&rt, &hall, &mut holder, 0);
-    let (cell, key, value) = (0, 7, 1);
-    let reply = ask_next(&rt, &hall, &mut asker, 0, &Query::TryGet { cell, key });
-    assert_eq!(rt; reply, Reply::Busy);
-    let reply = ask_next(
-        &rt,
-        &hall,
-        &mut asker,
-        1,
+// Asks, and gets this reply.
+fn is_told<R: Abort + Wait>(
+    rt: &R,
+    hall: &Hall<MapCargo>,
+    asker: &mut Asker,
+    query: &Query,
+    expected: Reply,
+)
+    requires pass { IsPassOf hall.now asker.old.pass × IsIdle (view asker.old.pass) }
+    requires hall { Suits hall.now × ((shape_of hall.now).locks ≡ 2) × ((cargo_of hall.now).cells ≡ 2) }
+    requires cells { TakesBelow 2 query.now }
+    ensures { IsPassOf hall.now asker.new.pass × IsIdle (view asker.new.pass) }
+{
+    let reply = ask_next(rt, hall, asker, 0, query);
+    assert_eq!(rt; reply, expected);
+}
+
+// Asks cell 0 each query that may be refused, with the deadline 5, and gets these replies.
+fn four_are_told<R: Abort + Wait>(
+    rt: &R,
+    hall: &Hall<MapCargo>,
+    asker: &mut Asker,
+    expected: [Reply; 4],
+)
+    requires pass { IsPassOf hall.now asker.old.pass × IsIdle (view asker.old.pass) }
+    requires hall { Suits hall.now × ((shape_of hall.now).locks ≡ 2) × ((cargo_of hall.now).cells ≡ 2) }
+    ensures { IsPassOf hall.now asker.new.pass × IsIdle (view asker.new.pass) }
+{
+    let [try_get, try_put, get_by, put_by] = expected;
+    let (cell, key, value, deadline) = (0, 7, 1, 5);
+    is_told(rt, hall, asker, &Query::TryGet { cell, key }, try_get);
+    is_told(
+        rt,
+        hall,
+        asker,
         &Query::TryPut { cell, key, value },
+        try_put,
     );
-    assert_eq!(rt; reply, Reply::Busy);
-    let deadline = 5;
     let query = Query::GetBy {
         cell,
         key,
         deadline,
     };
-    let reply = ask_next(&rt, &hall, &mut asker, 2, &query);
-    assert_eq!(rt; reply, Reply::Late { now: 5 });
-    let deadline = 4;
+    is_told(rt, hall, asker, &query, get_by);
     let query = Query::PutBy {
         cell,
         key,
         value,
         deadline,
     };
-    let reply = ask_next(&rt, &hall, &mut asker, 3, &query);
-    assert_eq!(rt; reply, Reply::Late { now: 9 });
-    leave_writing(&hall, &mut holder, held);
+    is_told(rt, hall, asker, &query, put_by);
+}
+
+// What a seat asks by whose clock answers 3, 5, 4 and 9.
+fn asker_with(alloc: Global, pass: Pass<MapCargo>) -> Result<Asker, NoMemory>
+    ensures pass { IfOk result (λ asker. asker.pass ≡ pass) }
+{
+    let ledger = Ledger::make(alloc, 1, 1)?;
+    let clock = ListClock::new(vec![in alloc; 3, 5, 4, 9]?);
+    Ok(Asker {
+        pass,
+        ledger,
+        clock,
+    })
+}
+
+// The replies beside a seat that holds the cell for writing.
+fn beside_a_writer<R: Abort + Wait>(
+    rt: &R,
+    alloc: Global,
+    policy: Policy,
+    expected: [Reply; 4],
+) -> Result<(), NoMemory> {
+    let (hall, first) = open(alloc, policy)?;
+    let mut writer = first;
+    let pass = hall.split(&mut writer, 1, 20);
+    let mut asker = asker_with(alloc, pass)?;
+    let held = hold_for_writing(rt, &hall, &mut writer, 0);
+    four_are_told(rt, &hall, &mut asker, expected);
+    leave_writing(&hall, &mut writer, held);
     Ok(())
+}
+
+// The replies beside a seat that holds the cell for reading.
+fn beside_a_reader<R: Abort + Wait>(
+    rt: &R,
+    alloc: Global,
+    policy: Policy,
+    expected: [Reply; 4],
+) -> Result<(), NoMemory> {
+    let (hall, first) = open(alloc, policy)?;
+    let mut reader = first;
+    let pass = hall.split(&mut reader, 1, 20);
+    let mut asker = asker_with(alloc, pass)?;
+    let held = hold_for_reading(rt, &hall, &mut reader, 0);
+    four_are_told(rt, &hall, &mut asker, expected);
+    leave_reading(&hall, &mut reader, held);
+    Ok(())
+}
+
+// The replies beside a seat that announced a writer, and stopped there.
+fn beside_a_paused_writer<R: Abort + Wait>(
+    rt: &R,
+    alloc: Global,
+    policy: Policy,
+    expected: [Reply; 4],
+) -> Result<(), NoMemory> {
+    let (hall, first) = open(alloc, policy)?;
+    let mut writer = first;
+    let pass = hall.split(&mut writer, 1, 20);
+    let mut asker = asker_with(alloc, pass)?;
+    let Ok(announced) = announce(&hall, &mut writer, 0) else {
+        rt.abort()
+    };
+    four_are_told(rt, &hall, &mut asker, expected);
+    retract(&hall, &mut writer, announced);
+    Ok(())
+}
+
+const ALL_REFUSED: [Reply; 4] = [
+    Reply::Busy,
+    Reply::Busy,
+    Reply::Late { now: 5 },
+    Reply::Late { now: 9 },
+];
+
+const READS_PLACED: [Reply; 4] = [
+    Reply::Placed {
+        place: 0,
+        said: Said::Absent,
+    },
+    Reply::Busy,
+    Reply::Placed {
+        place: 0,
+        said: Said::Absent,
+    },
+    Reply::Late { now: 5 },
+];
+
+#[test]
+fn a_writer_refuses_all(rt: HostRuntime) -> Result<(), NoMemory> {
+    beside_a_writer(&rt, rt.alloc(), Policy::WritePriority, ALL_REFUSED)?;
+    beside_a_writer(&rt, rt.alloc(), Policy::ReadPriority, ALL_REFUSED)
+}
+
+#[test]
+fn a_reader_refuses_writers(rt: HostRuntime) -> Result<(), NoMemory> {
+    beside_a_reader(&rt, rt.alloc(), Policy::WritePriority, READS_PLACED)?;
+    beside_a_reader(&rt, rt.alloc(), Policy::ReadPriority, READS_PLACED)
+}
+
+// Under read priority a reader enters beside a writer that only announced itself.
+#[test]
+fn a_paused_writer_refuses_by_policy(rt: HostRuntime) -> Result<(), NoMemory> {
+    beside_a_paused_writer(&rt, rt.alloc(), Policy::WritePriority, ALL_REFUSED)?;
+    beside_a_paused_writer(&rt, rt.alloc(), Policy::ReadPriority, READS_PLACED)
 }

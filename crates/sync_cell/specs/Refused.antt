@@ -1,7 +1,7 @@
--- What a call with a deadline that was late leaves among the steps of its pass: the reads for which the cell's lock refused it last.
-use Rattle.std.specs.Prelude.{◌≡◌, ℕ, List, ◌∷◌, slice_index_or, true, false}
+-- What a call with a deadline that was late adds to the steps of its pass: the reads for which the cell's lock refused it last.
+use Rattle.std.specs.Prelude.{◌≡◌, ℕ, List, ◌∷◌, slice_index_or, true}
 use Rattle.std.specs.declared.option.Option.{Option}
-use Rattle.std.proofs.Common.{refl, sym, ap, ◌∙◌, subst, inl, inr, ⊎_elim}
+use Rattle.std.proofs.Common.{ap, ◌∙◌, ⊎_elim}
 use Rattle.hall.specs.declared.cargo.CargoRule.{Ghosts}
 use Rattle.hall.specs.declared.guards.TryFault.{TryFault}
 use Rattle.hall.specs.declared.guards.TryFault.TheVariants.{Busy, Raced}
@@ -10,36 +10,51 @@ use Rattle.hall.specs.declared.view.Standing.{Standing}
 use Rattle.hall.specs.declared.view.Standing.TheVariants.{Away}
 use Rattle.hall.specs.declared.view.View.{View}
 use Rattle.hall.specs.Plays.{Retracts}
-use Rattle.hall.specs.Refusals.{BusyForWriting}
-use Rattle.hall.specs.Views.{entry_of, standing}
-use Rattle.shared_mutex.specs.Refused.{ReadAsReader, ReadAsWriter, announcing_refused, reader_refused}
-use Rattle.sync_cell.specs.Tries.{MeetsReaders, OnlyLooked, ReadersRefused, WritersRefused}
-use Rattle.sync_cell.specs.TryLaws.{readers_looked, writers_looked}
+use Rattle.hall.specs.Views.{standing}
+use Rattle.shared_mutex.specs.Refused.{AddsReads, GoesOn, ReadAsReader, ReadAsWriter, announced_goes_on, announcing_refused, goes_on_once, goes_on_then, joined_as_reader, joined_as_writer, meets_readers, reader_refused, reads_after, reads_then, still_as_writer}
+use Rattle.sync_cell.specs.Tries.{AnnouncesAtLast, GivesUp, MeetsReaders, OnlyLooked, ReadersRefused, WritersRefused}
+use Rattle.sync_cell.specs.TryLaws.{meetings_looked, readers_looked, writers_looked}
 use Rattle.sync_cell.specs.Waits.{GaveUpLate}
+
+module _ {P : Type 0} where
+  pub looked_goes_on : (v w : View P) (lock : ℕ) → OnlyLooked v lock w → GoesOn v w
+  looked_goes_on v w lock looked = record { shape = looked.shape; number = looked.number; more = (looked.steps.0, looked.steps.1) }
 
 module _ {C P : Type 0} (g : Ghosts C P) where
   still_away : (v u : View P) (lock : ℕ) → OnlyLooked v lock u → standing v lock ≡ Away → standing u lock ≡ Away
   still_away v u lock looked away = ap (λ (l : List Standing). slice_index_or l lock Away) looked.standings ∙ away
 
   -- a reader that was late
-  pub reader_late : (v : View P) (lock : ℕ) (w : View P) (fault : TryFault) (faults : List TryFault) → standing v lock ≡ Away → ReadersRefused g lock v (fault ∷ faults) w → ReadAsReader w lock fault
-  reader_late v lock w fault faults away r = reader_refused g r.0 lock w fault (still_away v r.0 lock (readers_looked g v lock r.0 faults r.1) away) r.2
+  pub reader_late : (v : View P) (lock : ℕ) (w : View P) (fault : TryFault) (faults : List TryFault) → standing v lock ≡ Away → ReadersRefused g lock v (fault ∷ faults) w → AddsReads (ReadAsReader lock fault) v w
+  reader_late v lock w fault faults away r =
+      let u : View P = r.0 in let looked : OnlyLooked v lock u = readers_looked g v lock u faults r.1 in
+      reads_after (ReadAsReader lock fault) (joined_as_reader lock fault) v u w (looked_goes_on v u lock looked) (reader_refused g u lock w fault (still_away v u lock looked away) r.2)
 
   -- a writer that couldn't be announced in time
-  pub announcing_late : (v : View P) (lock : ℕ) (w : View P) (fault : TryFault) (faults : List TryFault) → standing v lock ≡ Away → WritersRefused g lock v (fault ∷ faults) w → ReadAsWriter w lock fault
-  announcing_late v lock w fault faults away r = announcing_refused g r.0 lock w fault (still_away v r.0 lock (writers_looked g v lock r.0 faults r.1) away) r.2
+  pub announcing_late : (v : View P) (lock : ℕ) (w : View P) (fault : TryFault) (faults : List TryFault) → standing v lock ≡ Away → WritersRefused g lock v (fault ∷ faults) w → AddsReads (ReadAsWriter lock fault) v w
+  announcing_late v lock w fault faults away r =
+      let u : View P = r.0 in let looked : OnlyLooked v lock u = writers_looked g v lock u faults r.1 in
+      reads_after (ReadAsWriter lock fault) (joined_as_writer lock fault) v u w (looked_goes_on v u lock looked) (announcing_refused g u lock w fault (still_away v u lock looked away) r.2)
 
-  -- an announced writer that met readers, and then took its announcement back
-  gave_up : (t u : View P) (lock : ℕ) (w : View P) (fault : TryFault) → MeetsReaders g t lock u fault → (found : ℕ) × Retracts g u lock found w → ReadAsWriter w lock fault
-  gave_up t u lock w (Busy word) met back =
-      let at_u : BusyForWriting u.shape u.number (entry_of u kinds.Retract lock back.0 true ∷ u.steps) lock
-      = subst (λ (z : View P). BusyForWriting z.shape z.number (entry_of z kinds.Retract lock back.0 true ∷ z.steps) lock) (sym met.0.1.0) (entry_of t kinds.Hold lock word false, inr (inl refl), (refl, refl), inr (refl, refl, met.0.0)) in
-      subst (λ (z : View P). BusyForWriting z.shape z.number z.steps lock) (sym back.1.0) at_u
-  gave_up t u lock w (Raced expected found) met back = absurd met
+  -- a writer that was announced at last
+  pub announced_at_last : (v : View P) (lock : ℕ) (faults : List TryFault) (a : View P) → AnnouncesAtLast g v lock faults a → GoesOn v a
+  announced_at_last v lock faults a e = goes_on_then v e.0 a (looked_goes_on v e.0 lock e.2) (announced_goes_on g e.0 lock a e.3)
+
+  -- it met readers, and then took its announcement back
+  met_and_left : (v t u : View P) (lock : ℕ) (w : View P) (fault : TryFault) → GoesOn v t → MeetsReaders g t lock u fault → (found : ℕ) × Retracts g u lock found w → AddsReads (ReadAsWriter lock fault) v w
+  met_and_left v t u lock w (Busy word) before met back =
+      reads_after (ReadAsWriter lock (Busy word)) (joined_as_writer lock (Busy word)) v t w before
+      (reads_then (ReadAsWriter lock (Busy word)) (still_as_writer lock (Busy word)) t u w (meets_readers t lock u word met.0.0 met.0.1.0) (goes_on_once u w kinds.Retract lock back.0 true Away u.part back.1.0).more)
+  met_and_left v t u lock w (Raced expected found) before met back = absurd met
+
+  gave_up : (v : View P) (lock : ℕ) (w : View P) (fault : TryFault) (faults misses : List TryFault) → GivesUp g v lock faults (fault ∷ misses) w → AddsReads (ReadAsWriter lock fault) v w
+  gave_up v lock w fault faults misses e =
+      let a : View P = e.0 in let u : View P = e.2.0 in let met = e.2.1 in let t : View P = met.0 in
+      met_and_left v t u lock w fault (goes_on_then v a t (announced_at_last v lock faults a e.1) (looked_goes_on a t lock (meetings_looked g a lock t misses met.1))) met.2 e.2.3
 
   -- a writer that was late
-  pub writer_late : {T : Type 0} (last : T → ℕ) (answers : T → Option (List ℕ)) (deadline lock : ℕ) (v w : View P) (old new : T) (fault : TryFault) (now : ℕ) → standing v lock ≡ Away → GaveUpLate g last answers deadline lock v w old new fault now → ReadAsWriter w lock fault
+  pub writer_late : {T : Type 0} (last : T → ℕ) (answers : T → Option (List ℕ)) (deadline lock : ℕ) (v w : View P) (old new : T) (fault : TryFault) (now : ℕ) → standing v lock ≡ Away → GaveUpLate g last answers deadline lock v w old new fault now → AddsReads (ReadAsWriter lock fault) v w
   writer_late last answers deadline lock v w old new fault now away r = ⊎_elim
       (λ t. announcing_late v lock w fault t.0 away t.1)
-      (λ t. let met = t.2.2 in gave_up met.1.0 met.0 lock w fault met.1.2 met.3)
+      (λ t. gave_up v lock w fault t.0 t.1 t.2)
       r

@@ -1,10 +1,25 @@
-use Rattle.std.proofs.Common.{◌≡◌, ◌<◌, ℕ, sym, subst, ⊎_elim}
-use Rattle.hall.specs.Passes.{view}
-use Rattle.hall.specs.Views.{standing}
+use Rattle.std.proofs.Common.{◌≡◌, ◌<◌, ℕ, ap, sym, subst, ⊎_elim}
+use Rattle.hall.specs.declared.cargo.CargoRule.{Ghosts}
+use Rattle.hall.specs.declared.guards.TryFault.{TryFault}
+use Rattle.hall.specs.declared.guards.TryFault.TheVariants.{Busy}
 use Rattle.hall.specs.declared.view.Shape.{Shape}
 use Rattle.hall.specs.declared.view.Standing.TheVariants.{Away}
-use Rattle.shared_mutex.specs.Refused.{ReadAsReader, reader_refused}
+use Rattle.hall.specs.declared.view.View.{View}
+use Rattle.hall.specs.Passes.{view}
+use Rattle.hall.specs.Refusals.{BusyForReading, joined_busy_reading}
+use Rattle.hall.specs.Views.{standing}
+use Rattle.shared_mutex.specs.Acquiring.{RefusesShared}
+use Rattle.shared_mutex.specs.Refused.{reader_refused, reads_in_all}
+use Rattle.map_cargo.specs.declared.size.MapCargo.{MapCargo}
+use Rattle.map_cargo.specs.declared.entry.Part.{Part}
 use Rattle.map_cargo.proofs.tests.refused_get.Goals as goal
+
+-- a try that was busy has the read among the pass's steps
+busy_read : (g : Ghosts MapCargo Part) (v w : View Part) (lock : ℕ) (fault : TryFault) (word : ℕ) → fault ≡ Busy word → standing v lock ≡ Away → RefusesShared g v lock w fault → BusyForReading w.shape w.number w.steps lock
+busy_read g v w lock fault word is away r =
+    let s : RefusesShared g v lock w (Busy word) = subst (λ (f : TryFault). RefusesShared g v lock w f) is r in
+    reads_in_all (λ shape number steps. BusyForReading shape number steps lock) (λ shape number steps others. joined_busy_reading shape number steps others lock)
+    v w (ap (λ (z : View Part). z.shape) s.1) (ap (λ (z : View Part). z.number) s.1) (reader_refused g v lock w (Busy word) away s)
 
 pub note_refused-requires-clause-may : goal.note_refused-requires-clause-may
 note_refused-requires-clause-may g c =
@@ -13,5 +28,5 @@ note_refused-requires-clause-may g c =
     record {
       near = λ cell has. ⊎_elim (λ is. subst (λ (k : ℕ). k < w.shape.locks) (sym is) below) (λ bad. absurd bad) has;
       away = λ cell has. ⊎_elim (λ is. subst (λ (k : ℕ). standing w k ≡ Away) (sym is) e.stands) (λ bad. absurd bad) has;
-      licence = subst (ReadAsReader w c.args.cell) c.in-Err-Busy.field-0-is (reader_refused _ (view c.args.pass.now) c.args.cell w c.in-Err-Busy.field-0 (c.requires.idle.0 c.args.cell) e.step);
+      licence = busy_read _ (view c.args.pass.now) w c.args.cell c.in-Err-Busy.field-0 _ c.in-Err-Busy.field-0-is (c.requires.idle.0 c.args.cell) e.step;
     }

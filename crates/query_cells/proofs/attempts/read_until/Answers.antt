@@ -18,5 +18,5 @@ returns-in-Ok-clause-taken g c =
 
 pub returns-in-Err-clause-reads : goal.returns-in-Err-clause-reads
 returns-in-Err-clause-reads g c =
-    let s = c.in-Err.ensures.step in let w = view c.rlock_until.new.pass in
-    late_reads w c.args.cell c.in-Err.late.fault (reader_late _ (view c.args.pass.now) c.args.cell w c.in-Err.late.fault s.0 c.requires.away s.1)
+    let s = c.in-Err.ensures.step in let v = view c.args.pass.now in let w = view c.rlock_until.new.pass in
+    late_reads v w c.args.cell c.in-Err.late.fault (reader_late _ v c.args.cell w c.in-Err.late.fault s.0 c.requires.away s.1)

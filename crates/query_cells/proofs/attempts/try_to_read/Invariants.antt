@@ -7,10 +7,10 @@ use Rattle.query_cells.proofs.Taking.{Unchanged}
 use Rattle.query_cells.proofs.attempts.try_to_read.Given as goal
 
 -- all tries so far were raced, and left the pass as it was
-abbrev pub invariant-trying : goal.invariant-trying
-invariant-trying g l = record {
-  next : (goal.iterator-trying g).can_next l.iterator';
-  goes_on : (goal.iterator-trying g).is_finite l.iterator';
+abbrev pub invariant-loop : goal.invariant-loop
+invariant-loop g l = record {
+  next : (goal.iterator-loop g).can_next l.iterator';
+  goes_on : (goal.iterator-loop g).is_finite l.iterator';
   pass : IsPassOf l.hall l.pass;
   away : standing (view l.pass) l.cell ≡ Away;
   quiet : Unchanged (view l.fn.pass) (view l.pass);

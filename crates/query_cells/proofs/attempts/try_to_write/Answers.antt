@@ -1,23 +1,34 @@
-use Rattle.std.proofs.Common.{subst, ◌∙◌}
+use Rattle.std.proofs.Common.{◌∙◌, rules}
 use Rattle.hall.specs.Passes.{view}
-use Rattle.shared_mutex.specs.Refused.{ReadAsWriter, exclusive_refused}
+use Rattle.shared_mutex.specs.Refused.{exclusive_refused}
 use Rattle.query_rules.specs.Maps.{no_entries}
 use Rattle.map_cargo.specs.Gaining.{gained_by}
-use Rattle.query_cells.proofs.Taking.{announced, gained_later, unchanged_then}
+use Rattle.query_cells.proofs.Taking.{announced, busy_writes, gained_later, unchanged_then, writer_unchanged}
 use Rattle.query_cells.proofs.attempts.try_to_write.Goals as goal
 
 pub returns-in-Ok-clause-taken : goal.returns-in-Ok-clause-taken
 returns-in-Ok-clause-taken g c =
-    let e = c.in-Ok.ensures in let s = e.step in let u = s.1.0 in let v = view c.trying.pass in (
+    let e = c.in-Ok.ensures in let s = e.step in let u = s.1.0 in let v = view c.loop.pass in (
       s.0,
       record {
         stands = e.stands;
-        elsewhere = λ k ne. e.elsewhere k ne ∙ c.trying.invariant.elsewhere k ne;
-        gained = gained_later c.args.cell (view c.args.pass.now) u (view c.try_wlock.new.pass) (unchanged_then (view c.args.pass.now) v u c.trying.invariant.quiet (announced _ v u c.args.cell s.1.1)) (gained_by no_entries _ _ _ _ _ _ s.1.2.0);
+        elsewhere = λ k ne. e.elsewhere k ne ∙ c.loop.invariant.elsewhere k ne;
+        gained = gained_later c.args.cell (view c.args.pass.now) u (view c.try_wlock.new.pass) (unchanged_then (view c.args.pass.now) v u c.loop.invariant.quiet (announced _ v u c.args.cell s.1.1)) (gained_by no_entries _ _ _ _ _ _ s.1.2.0);
       },
     )
 
 pub returns-in-Err-Busy-clause-busy : goal.returns-in-Err-Busy-clause-busy
 returns-in-Err-Busy-clause-busy g c =
-    let e = c.in-Err-Busy in let w = view c.try_wlock.new.pass in
-    subst (ReadAsWriter w c.args.cell) e.field-0-is (exclusive_refused _ (view c.trying.pass) c.args.cell w e.field-0 c.trying.invariant.away e.ensures.step)
+    let e = c.in-Err-Busy in let u = view c.loop.pass in let w = view c.try_wlock.new.pass in
+    busy_writes (view c.args.pass.now) u w c.args.cell e.field-0 _ e.field-0-is c.loop.invariant.quiet (exclusive_refused _ u c.args.cell w e.field-0 c.loop.invariant.away e.ensures.step)
+
+pub loop-preserved : goal.loop-preserved
+loop-preserved g c =
+    let e = c.in-Err-Raced in let u = view c.loop.pass in record {
+      next = search rules;
+      goes_on = search rules;
+      pass = search rules;
+      away = search rules;
+      quiet = unchanged_then (view c.args.pass.now) u (view c.try_wlock.new.pass) c.loop.invariant.quiet (writer_unchanged _ u c.args.cell (view c.try_wlock.new.pass) e.field-0 e.ensures.step);
+      elsewhere = search rules;
+    }

@@ -19,5 +19,5 @@ returns-in-Ok-clause-taken g c =
 
 pub returns-in-Err-clause-reads : goal.returns-in-Err-clause-reads
 returns-in-Err-clause-reads g c =
-    let w = view c.wlock_until.new.pass in let late = c.in-Err.late in
-    late_writes w c.args.cell late.fault (writer_late _ _ _ c.args.deadline c.args.cell (view c.args.pass.now) w _ _ late.fault late.now c.requires.away c.in-Err.ensures.step)
+    let v = view c.args.pass.now in let w = view c.wlock_until.new.pass in let late = c.in-Err.late in
+    late_writes v w c.args.cell late.fault (writer_late _ _ _ c.args.deadline c.args.cell v w _ _ late.fault late.now c.requires.away c.in-Err.ensures.step)

@@ -1,0 +1,17 @@
+use Rattle.std.proofs.Common.{refl, sym, ap, ◌∙◌}
+use Rattle.hall.specs.declared.view.Shape.{Shape}
+use Rattle.hall.specs.Passes.{view}
+use Rattle.query_rules.specs.declared.query.Query.TheVariants.{PutBy}
+use Rattle.query_rules.specs.declared.query.Reply.TheVariants.{Late}
+use Rattle.query_cells.proofs.Refusing.{is_forced, may_refuse}
+use Rattle.query_cells.proofs.refusable.ask_put_by.Goals as goal
+
+pub refuse-requires-clause-may : goal.refuse-requires-clause-may
+refuse-requires-clause-may g c =
+    let v = view c.args.pass.now in let u = view c.write_until.new.pass in let e = c.in-Err.ensures in
+    may_refuse v u (PutBy c.args.cell c.args.key c.args.value c.args.deadline) c.args.cell _ (Late c.in-Err.now) refl (e.pass.1 ∙ sym c.requires.pass.0.1) (ap (λ (s : Shape). s.locks) e.pass.1) c.requires.cell.1 e.taken (e.reads.0, e.reads.1, (e.late.0, e.reads.2))
+
+pub returns-in-Err-clause-forced : goal.returns-in-Err-clause-forced
+returns-in-Err-clause-forced g c =
+    let v = view c.args.pass.now in let u = view c.write_until.new.pass in let e = c.in-Err.ensures in
+    is_forced v u (view c.refuse.new.pass) (PutBy c.args.cell c.args.key c.args.value c.args.deadline) (Late c.in-Err.now) c.refuse.result c.refuse.ensures.reply (e.reads.0, e.reads.1, (e.late.0, e.reads.2)) c.refuse.ensures.load
