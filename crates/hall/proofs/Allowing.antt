@@ -25,11 +25,11 @@ module _ {C P : Type 0} (g : Ghosts C P) (plan : Plan C) (n id : ℕ) (me : Me (
   abbrev place : ℕ
   place = plan.shape.slots + lock
 
-  same : (w : View P) (kind : Kind) (x : ℕ) (won : Bool) (y : Standing) (part : P) → w ≡ after_step me.0 kind lock x won y part → Same me (w, me.1)
+  pub same : (w : View P) (kind : Kind) (x : ℕ) (won : Bool) (y : Standing) (part : P) → w ≡ after_step me.0 kind lock x won y part → Same me (w, me.1)
   same w kind x won y part e = subst (λ (z : View P). Same me (z, me.1)) (sym e) (refl, refl, refl, refl, refl, length-set me.0.standings lock y)
 
   -- a fact of this lock is one of the lock whose word it was
-  told : (F : View P → ℕ → ℕ → View P → Type 0) (x : ℕ) (w : View P) → F me.0 lock x w → (k : ℕ) → place ≡ me.0.shape.slots + k → F me.0 k x w
+  pub told : (F : View P → ℕ → ℕ → View P → Type 0) (x : ℕ) (w : View P) → F me.0 lock x w → (k : ℕ) → place ≡ me.0.shape.slots + k → F me.0 k x w
   told F x w f k e = subst (λ (j : ℕ). F me.0 j x w) (one_lock g plan me.0 lock k shape e) f
 
   pub loads : Allows (Holds g plan) n id me i (λ x. x) (At (Loads g) (step n i 0 0 none) me)

@@ -81,14 +81,6 @@ module _ {P : Type 0} where
   writing_fits views id lock v at none = compatible views id lock exclusive_mode (λ j u e ne. let there : get_elem? (set views id (gone v)) j ≡ some u = set_else views id j (gone v) ne ∙ e in let l = set views id (gone v) in
       is_free (standing u lock) (omega (arith, term_le (count (λ t. t.exclusive) lock) l j u there, term_le (count (λ t. t.shared) lock) l j u there, term_le (count (λ t. t.upgrade) lock) l j u there, term_le (count (λ t. t.plain) lock) l j u there, term_le (count (λ t. t.raised) lock) l j u there)))
 
--- two standings of one lock fit
-abbrev Fit : Standing → Standing → Type 0
-Fit x y = ((weight x).exclusive + (weight x).upgrade + (weight x).plain + (weight x).raised + ((weight y).exclusive + (weight y).upgrade + (weight y).plain + (weight y).raised) ≤ 1)
-    × (1 ≤ (weight x).exclusive + (weight y).exclusive → (weight x).shared + (weight y).shared ≤ 0)
-
-fit_reading : (y : Standing) → (weight y).exclusive ≤ 0 → Together shared_mode (mode_of y)
-fit_reading = not_exclusive
-
 fit_upgrading : (y : Standing) → (weight y).exclusive + (weight y).upgrade + (weight y).plain + (weight y).raised ≤ 0 → Together upgrade_mode (mode_of y)
 fit_upgrading y h = elim y as (λ z. (weight z).exclusive + (weight z).upgrade + (weight z).plain + (weight z).raised ≤ 0 → Together upgrade_mode (mode_of z)) [
   | Away ↦ λ _. tt
@@ -100,6 +92,19 @@ fit_upgrading y h = elim y as (λ z. (weight z).exclusive + (weight z).upgrade +
   | Exclusive ↦ λ h. absurd (omega arith)
   | Announcing p k f ↦ elim f as (λ b. (weight (Announcing p k b)).exclusive + (weight (Announcing p k b)).upgrade + (weight (Announcing p k b)).plain + (weight (Announcing p k b)).raised ≤ 0 → Together upgrade_mode (mode_of (Announcing p k b))) [ true ↦ λ h. absurd (omega arith) | false ↦ λ h. absurd (omega arith) ]
 ] h
+
+module _ {P : Type 0} where
+  pub upgrading_fits : (views : List (View P)) (id lock : ℕ) (v : View P) → get_elem? views id ≡ some v → (let o = counts lock (set views id (gone v)) in o.exclusive + o.upgrade + o.plain + o.raised ≡ 0) → Compatible (map cargo_seat views) id lock upgrade_mode
+  upgrading_fits views id lock v at none = compatible views id lock upgrade_mode (λ j u e ne. let there : get_elem? (set views id (gone v)) j ≡ some u = set_else views id j (gone v) ne ∙ e in let l = set views id (gone v) in
+      fit_upgrading (standing u lock) (omega (arith, term_le (count (λ t. t.exclusive) lock) l j u there, term_le (count (λ t. t.upgrade) lock) l j u there, term_le (count (λ t. t.plain) lock) l j u there, term_le (count (λ t. t.raised) lock) l j u there)))
+
+-- two standings of one lock fit
+abbrev Fit : Standing → Standing → Type 0
+Fit x y = ((weight x).exclusive + (weight x).upgrade + (weight x).plain + (weight x).raised + ((weight y).exclusive + (weight y).upgrade + (weight y).plain + (weight y).raised) ≤ 1)
+    × (1 ≤ (weight x).exclusive + (weight y).exclusive → (weight x).shared + (weight y).shared ≤ 0)
+
+fit_reading : (y : Standing) → (weight y).exclusive ≤ 0 → Together shared_mode (mode_of y)
+fit_reading = not_exclusive
 
 shared_first : (y : Standing) → (1 ≤ 0 + (weight y).exclusive → 1 + (weight y).shared ≤ 0) → (weight y).exclusive ≤ 0
 shared_first y h = dite (dec_le (weight y).exclusive 0) (λ d. d) (λ no. absurd (omega (arith, h (omega arith))))

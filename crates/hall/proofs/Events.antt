@@ -60,7 +60,7 @@ share_held ReadPriority w h = not_set (held_of w) (omega arith) h
 share_begun : (p : Policy) (w : ℕ) → conflicts_for_shared p w ≡ false → p ≡ WritePriority → begun_of w ≡ 0
 share_begun p w h first = let t : conflicts_for_shared WritePriority w ≡ false = ap (λ (z : Policy). conflicts_for_shared z w) (sym first) ∙ h in not_set (begun_of w) (omega arith) (both_off (held_of w == 1) (begun_of w == 1) t).1
 
-announce_clear : (w : ℕ) → conflicts_for_announcing w ≡ false → (upgrade_of w ≡ 0) × (begun_of w ≡ 0) × (held_of w ≡ 0)
+pub announce_clear : (w : ℕ) → conflicts_for_announcing w ≡ false → (upgrade_of w ≡ 0) × (begun_of w ≡ 0) × (held_of w ≡ 0)
 announce_clear w h = let a = both_off (upgrade_of w == 1) ((begun_of w == 1) || (held_of w == 1)) h in let b = both_off (begun_of w == 1) (held_of w == 1) a.1 in
     (not_set (upgrade_of w) (omega arith) a.0, not_set (begun_of w) (omega arith) b.0, not_set (held_of w) (omega arith) b.1)
 
@@ -75,7 +75,7 @@ enter_open p x h calm = elim x as (λ z. (weight z).exclusive ≤ 0 → (p ≡ W
   | _ ↦ λ _ _. refl
 ] h calm
 
-announce_open : (p : Policy) (x : Standing) → (weight x).upgrade + (weight x).plain + (weight x).raised + (weight x).exclusive ≤ 0 → bars p act.Announce (role_of x) ≡ false
+pub announce_open : (p : Policy) (x : Standing) → (weight x).upgrade + (weight x).plain + (weight x).raised + (weight x).exclusive ≤ 0 → bars p act.Announce (role_of x) ≡ false
 announce_open p x h = elim x as (λ z. (weight z).upgrade + (weight z).plain + (weight z).raised + (weight z).exclusive ≤ 0 → bars p act.Announce (role_of z) ≡ false) [
   | Upgrade ↦ λ h. absurd (omega arith)
   | Exclusive ↦ λ h. absurd (omega arith)
@@ -83,7 +83,7 @@ announce_open p x h = elim x as (λ z. (weight z).upgrade + (weight z).plain + (
   | _ ↦ λ _. refl
 ] h
 
-hold_open : (p : Policy) (x : Standing) → (weight x).exclusive + (weight x).shared + (weight x).upgrade + (weight x).plain + (weight x).raised ≤ 0 → bars p act.TakeExclusive (role_of x) ≡ false
+pub hold_open : (p : Policy) (x : Standing) → (weight x).exclusive + (weight x).shared + (weight x).upgrade + (weight x).plain + (weight x).raised ≤ 0 → bars p act.TakeExclusive (role_of x) ≡ false
 hold_open p x h = elim x as (λ z. (weight z).exclusive + (weight z).shared + (weight z).upgrade + (weight z).plain + (weight z).raised ≤ 0 → bars p act.TakeExclusive (role_of z) ≡ false) [
   | Away ↦ λ _. refl
   | Undecided k ↦ λ _. refl
@@ -104,7 +104,7 @@ bump_calm w h = dite (ℕ_discrete (w / 4 % 2) 0) (λ e. e) (λ ne.
 enter_may : (w b : ℕ) → b + w % 2 ≤ 1 → ((w + 4294967296) % 18446744073709551616 + b) % 2 ≡ w % 2 + b
 enter_may w b h = omega arith
 
-retract_word : (w : ℕ) → w % 8 ≡ 4 → bit_xor w 5 ≡ w - 3
+pub retract_word : (w : ℕ) → w % 8 ≡ 4 → bit_xor w 5 ≡ w - 3
 retract_word w e = let q : ℕ = w / 8 in let is : w ≡ q * 2 ^ 3 + 4 = omega arith in
     let block : bit_xor (q * 2 ^ 3 + 4) 5 ≡ bit_xor q 0 * 2 ^ 3 + 1 = xor_block 3 q 0 4 5 (lit< tt) (lit< tt) in
     ap (λ (z : ℕ). bit_xor z 5) is ∙ block ∙ ap (λ (z : ℕ). z * 2 ^ 3 + 1) (xor_zero_r q) ∙ omega arith
@@ -135,7 +135,7 @@ module _ {C P : Type 0} (g : Ghosts C P) (plan : Plan C) (s : State (Unit {0}) (
   Kept new w = Holds g plan record { words = set s.words (plan.shape.slots + lock) new; homes = s.homes; views = set s.views id w }
 
   -- the moment of a step that kept the rule
-  moment : (w : View P) (new : ℕ) (a : Option Act) → Kept new w → ((k : ℕ) → k ≢ lock → standing w k ≡ standing v k) → w.number ≡ v.number → w.span ≡ v.span
+  pub moment : (w : View P) (new : ℕ) (a : Option Act) → Kept new w → ((k : ℕ) → k ≢ lock → standing w k ≡ standing v k) → w.number ≡ v.number → w.span ≡ v.span
       → after_act (lock_shown v.shape.policy lock s.views) v.number a ≡ Some (lock_shown v.shape.policy lock (set s.views id w)) → Moment g v w lock word new a
   moment w new a kept else_same number span move =
       let place : (k : ℕ) → plan.shape.slots + k ≡ v.shape.slots + k = λ k. ap (λ (z : Shape). z.slots + k) (sym shape) in record {
@@ -153,20 +153,20 @@ module _ {C P : Type 0} (g : Ghosts C P) (plan : Plan C) (s : State (Unit {0}) (
       }
 
   -- a step that moves nothing
-  still : (w : View P) → w.number ≡ v.number → w.span ≡ v.span → role_of (standing w lock) ≡ role_of (standing v lock) → after_act (lock_shown v.shape.policy lock s.views) v.number None ≡ Some (lock_shown v.shape.policy lock (set s.views id w))
+  pub still : (w : View P) → w.number ≡ v.number → w.span ≡ v.span → role_of (standing w lock) ≡ role_of (standing v lock) → after_act (lock_shown v.shape.policy lock s.views) v.number None ≡ Some (lock_shown v.shape.policy lock (set s.views id w))
   still w number span role = ap (λ (l : List SeatRole). Some (record { policy = v.shape.policy; seats = l })) (sym (shown_same s.views id lock v w at number span role))
 
   -- a step that is an act
-  acting : (w : View P) (a : Act) (x y : Standing) → standing v lock ≡ x → standing w lock ≡ y → w.number ≡ v.number → w.span ≡ v.span → role_after a (role_of x) ≡ Some (role_of y)
+  pub acting : (w : View P) (a : Act) (x y : Standing) → standing v lock ≡ x → standing w lock ≡ y → w.number ≡ v.number → w.span ≡ v.span → role_after a (role_of x) ≡ Some (role_of y)
       → ((j : ℕ) (u : View P) → get_elem? s.views j ≡ some u → j ≢ id → bars v.shape.policy a (role_of (standing u lock)) ≡ false)
       → after_act (lock_shown v.shape.policy lock s.views) v.number (Some a) ≡ Some (lock_shown v.shape.policy lock (set s.views id w))
   acting w a x y was is number span table open_to = acts v.shape.policy a s.views id lock v w at number span lives (λ j u e ne living. numbers_differ plan.shape.seats s.views id j v u h.numbered at e ne lives living)
       (ap (λ (z : Standing). role_after a (role_of z)) was ∙ table ∙ ap (λ (z : Standing). Some (role_of z)) (sym is)) open_to
 
-  stands : (kind : Kind) (x : ℕ) (won : Bool) (y : Standing) (part : P) → standing (after_step v kind lock x won y part) lock ≡ y
+  pub stands : (kind : Kind) (x : ℕ) (won : Bool) (y : Standing) (part : P) → standing (after_step v kind lock x won y part) lock ≡ y
   stands kind x won y part = let f = h.formed id v at in get_or-set_same v.standings lock y Away (subst (λ (k : ℕ). lock < k) (sym (f.wide lives)) near)
 
-  stays : (kind : Kind) (x : ℕ) (won : Bool) (y : Standing) (part : P) (k : ℕ) → k ≢ lock → standing (after_step v kind lock x won y part) k ≡ standing v k
+  pub stays : (kind : Kind) (x : ℕ) (won : Bool) (y : Standing) (part : P) (k : ℕ) → k ≢ lock → standing (after_step v kind lock x won y part) k ≡ standing v k
   stays kind x won y part k ne = get_or-set_other v.standings lock k y Away ne
 
   -- what a step tells that changed nothing
@@ -192,13 +192,13 @@ module _ {C P : Type 0} (g : Ghosts C P) (plan : Plan C) (s : State (Unit {0}) (
       (kept', (refl, roomy g plan s h lock near fits, moment w word None kept' (stays kinds.Load word false (standing v lock) part) refl refl (still w refl refl (ap role_of same))))
 
   -- the counts of the others, and the law with this pass's standing x
-  law_at : (x : Standing) → standing v lock ≡ x → Lawful word (named_by plan.shape.slots lock s.words) (plus (counts lock (set s.views id (gone v))) (weight x))
+  pub law_at : (x : Standing) → standing v lock ≡ x → Lawful word (named_by plan.shape.slots lock s.words) (plus (counts lock (set s.views id (gone v))) (weight x))
   law_at x st = let split = counts_split s.views id lock v v at in
       subst (λ (z : Standing). Lawful word (named_by plan.shape.slots lock s.words) (plus (counts lock (set s.views id (gone v))) (weight z))) st
       (subst (Lawful word (named_by plan.shape.slots lock s.words)) split.0 (h.lawful lock near))
 
   -- a count of the others that is 0 is 0 of each
-  each_none : (f : Tally → ℕ) → total (count f lock) (set s.views id (gone v)) ≡ 0 → (j : ℕ) (u : View P) → get_elem? s.views j ≡ some u → j ≢ id → f (weight (standing u lock)) ≤ 0
+  pub each_none : (f : Tally → ℕ) → total (count f lock) (set s.views id (gone v)) ≡ 0 → (j : ℕ) (u : View P) → get_elem? s.views j ≡ some u → j ≢ id → f (weight (standing u lock)) ≤ 0
   each_none f none' j u e ne = let there : get_elem? (set s.views id (gone v)) j ≡ some u = set_else s.views id j (gone v) ne ∙ e in omega (arith, term_le (count f lock) (set s.views id (gone v)) j u there, none')
 
   pub entered : standing v lock ≡ Away → conflicts_for_shared plan.shape.policy word ≡ false → word < 18446744073709551616 → (w : View P) × Kept (enter_of word) w × Enters g v lock word w
@@ -219,7 +219,7 @@ module _ {C P : Type 0} (g : Ghosts C P) (plan : Plan C) (s : State (Unit {0}) (
       (w, kept, ((drop (plan.shape.slots + plan.shape.locks) s.words, part, got.1, refl), moment w (enter_of word) (Some act.EnterShared) kept (stays kinds.Enter word true Inline part) refl refl move))
 
   -- the count of units at a lock is a sum over the passes
-  unit_sum : (l : List (View P)) → units (counts lock l) ≡ total (λ u. (weight (standing u lock)).shared + (weight (standing u lock)).undecided + (weight (standing u lock)).owing) l
+  pub unit_sum : (l : List (View P)) → units (counts lock l) ≡ total (λ u. (weight (standing u lock)).shared + (weight (standing u lock)).undecided + (weight (standing u lock)).owing) l
   unit_sum l = sym (total-plus (count (λ t. t.shared) lock) (count (λ t. t.undecided) lock) (count (λ t. t.owing) lock) l)
 
   pub lowered : (standing v lock ≡ Inline) ⊎ (standing v lock ≡ Owing) → (w : View P) × Kept (lower_of word) w × GivesBack g v lock word w

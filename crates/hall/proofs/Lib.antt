@@ -8,7 +8,9 @@ mod Keeps
 mod Slots
 mod Steps
 mod Events
+mod Upgrading
 mod Allowing
+mod UpgradeSteps
 mod Dividing
 mod Parting
 mod Opening

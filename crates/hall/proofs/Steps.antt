@@ -14,7 +14,7 @@ use Rattle.hall.specs.declared.view.Kind.TheVariants.{Hold}
 use Rattle.lock_model.specs.declared.model.Mode.{Mode}
 use Rattle.hall.specs.declared.view.Standing.{Standing}
 use Rattle.hall.specs.declared.view.Standing.TheVariants.{Away}
-use Rattle.hall.specs.Cargo.{exclusive_mode, Compatible, Lowers}
+use Rattle.hall.specs.Cargo.{upgrade_mode, exclusive_mode, Compatible, Lowers}
 use Rattle.view_sums.specs.Sums.{total}
 use Rattle.state_word.specs.Words.{may_defer_of, units_of}
 use Rattle.hall.specs.Locks.{Tally, weight, Lawful, IsSeated, cover, naming, count, counts, named_by}
@@ -113,6 +113,14 @@ module _ {C P : Type 0} (g : Ghosts C P) (plan : Plan C) where
       let ws : List ℕ = drop (plan.shape.slots + plan.shape.locks) s.words in
       let t = g.gain_keeps plan.cargo ws (map cargo_seat s.views) id lock m (cargo_seat v) h.cargo (at_map cargo_seat s.views id v at) (mode_at v lock ∙ free) some' fits in
       (t.0, t.1, subst (g.holds plan.cargo ws) (sym (cargo_changed s.views id lock word v kind true y m t.0 is)) t.2)
+
+  -- the cargo where upgrade is raised to exclusive
+  pub raises : (s : St) (h : Holds g plan s) (id lock word : ℕ) (v : View P) (kind : Kind) (y : Standing) → get_elem? s.views id ≡ some v → mode_of (standing v lock) ≡ upgrade_mode → mode_of y ≡ exclusive_mode → Compatible (map cargo_seat s.views) id lock exclusive_mode
+      → g.holds plan.cargo (drop (plan.shape.slots + plan.shape.locks) s.words) (map cargo_seat (set s.views id (after_step v kind lock word true y v.part)))
+  raises s h id lock word v kind y at was is fits =
+      let ws : List ℕ = drop (plan.shape.slots + plan.shape.locks) s.words in
+      subst (g.holds plan.cargo ws) (sym (cargo_changed s.views id lock word v kind true y exclusive_mode v.part is))
+      (g.raise_keeps plan.cargo ws (map cargo_seat s.views) id lock (cargo_seat v) h.cargo (at_map cargo_seat s.views id v at) (mode_at v lock ∙ was) fits)
 
   -- the cargo where a mode is lost
   pub loses : (s : St) (h : Holds g plan s) (id lock word : ℕ) (v : View P) (kind : Kind) (y : Standing) (m : Option Mode) → get_elem? s.views id ≡ some v → mode_of y ≡ m → Lowers (mode_of (standing v lock)) m → (mode_of (standing v lock) ≡ exclusive_mode → g.settled lock v.part)

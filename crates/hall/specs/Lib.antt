@@ -13,4 +13,6 @@ pub mod Rule
 pub mod ShownLaws
 pub mod Shows
 pub mod Trails
+pub mod UpgradeLaws
+pub mod Upgrading
 pub mod Views

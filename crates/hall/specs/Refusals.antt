@@ -37,6 +37,10 @@ module _ (shape : Shape) (number : ℕ) (steps : List StepEntry) (lock : ℕ) wh
   BusyForWriting = (e : StepEntry) × Has steps e × IsReadOf e
       × (((is_outside e.before ≡ true) × (conflicts_for_announcing e.word ≡ true)) ⊎ ((e.kind ≡ Hold) × (e.won ≡ false) × (units_of e.word ≢ 0)))
 
+  -- one was made from outside, and found a word that grants nobody upgrade
+  abbrev pub BusyForUpgrade : Type 0
+  BusyForUpgrade = (e : StepEntry) × Has steps e × IsReadOf e × (is_outside e.before ≡ true) × (conflicts_for_announcing e.word ≡ true)
+
   -- one found another word than its number had read before, and neither that read nor a step since then may have changed the word
   abbrev pub ReadTwoWords : Type 0
   ReadTwoWords = (newer : List StepEntry) × (e : StepEntry) × (older : List StepEntry) × (first : ℕ) × (steps ≡ newer ++ e ∷ older)
@@ -53,6 +57,9 @@ module _ (shape : Shape) (number : ℕ) (added steps : List StepEntry) (lock : �
 
   pub still_busy_writing : BusyForWriting shape number steps lock → BusyForWriting shape number (added ++ steps) lock
   still_busy_writing r = (r.0, has_behind added steps r.0 r.1, r.2, r.3)
+
+  pub still_busy_upgrade : BusyForUpgrade shape number steps lock → BusyForUpgrade shape number (added ++ steps) lock
+  still_busy_upgrade r = (r.0, has_behind added steps r.0 r.1, r.2, r.3, r.4)
 
   pub still_two_words : ReadTwoWords shape number steps lock → ReadTwoWords shape number (added ++ steps) lock
   still_two_words r = (added ++ r.0, r.1, r.2, r.3, ap (λ (l : List StepEntry). added ++ l) r.4 ∙ sym (append_assoc added r.0 (r.1 ∷ r.2)), r.5, r.6, r.7)
@@ -82,6 +89,9 @@ module _ (shape : Shape) (number : ℕ) (steps others : List StepEntry) (lock : 
   pub joined_busy_writing : BusyForWriting shape number steps lock → BusyForWriting shape number (steps ++ others) lock
   joined_busy_writing r = (r.0, has_before steps others r.0 r.1, r.2, r.3)
 
+  pub joined_busy_upgrade : BusyForUpgrade shape number steps lock → BusyForUpgrade shape number (steps ++ others) lock
+  joined_busy_upgrade r = (r.0, has_before steps others r.0 r.1, r.2, r.3, r.4)
+
   pub joined_two_words : ReadTwoWords shape number steps lock → ReadTwoWords shape number (steps ++ others) lock
   joined_two_words r = (r.0, r.1, r.2 ++ others, r.3, ap (λ (l : List StepEntry). l ++ others) r.4 ∙ append_assoc r.0 (r.1 ∷ r.2) others, r.5, still_read (shape.slots + lock) number r.3 r.2 others r.6, r.7)
 
@@ -99,6 +109,10 @@ module _ {C P : Type 0} (g : Ghosts C P) (plan : Plan C) (s : State (Unit {0}) (
   -- who was refused as a reader met a writer or an upgrade holder
   pub reading_met : BusyForReading plan.shape number v.steps lock → StrongOthers s.views lock number
   reading_met r = subst (StrongOthers s.views lock) r.2.0 (h.trailed.excused id v at r.0 r.1 lock near r.2.1 r.3 (shared_bits plan.shape.policy r.0.word r.4))
+
+  -- and so did who was refused upgrade
+  pub upgrading_met : BusyForUpgrade plan.shape number v.steps lock → StrongOthers s.views lock number
+  upgrading_met r = subst (StrongOthers s.views lock) r.2.0 (h.trailed.excused id v at r.0 r.1 lock near r.2.1 r.3 (announcing_bits r.0.word r.4))
 
   -- who was refused as a writer met somebody
   pub writing_met : BusyForWriting plan.shape number v.steps lock → Others s.views lock number
@@ -129,6 +143,9 @@ module _ {C P : Type 0} (g : Ghosts C P) (plan : Plan C) (s : State (Unit {0}) (
 
   pub several_writers : BusyForWriting plan.shape number v.steps lock → 1 < plan.shape.seats
   several_writers r = several r.0 r.1 r.2.0 (writing_met r)
+
+  pub several_upgraders : BusyForUpgrade plan.shape number v.steps lock → 1 < plan.shape.seats
+  several_upgraders r = let o = upgrading_met r in several r.0 r.1 r.2.0 (o.0, o.1, o.2, o.3)
 
   pub several_racers : ReadTwoWords plan.shape number v.steps lock → 1 < plan.shape.seats
   several_racers r = several r.1 (subst (λ (l : List StepEntry). Has l r.1) (sym r.4) (has_behind r.0 (r.1 ∷ r.2) r.1 (inl refl))) r.5.0 (racing_met r)

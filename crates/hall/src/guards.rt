@@ -8,6 +8,13 @@ pub struct SharedGuard {
     pub lock: u64,
 }
 
+/// An upgrade hold of a lock: beside readers, and alone among those that may write. It must be given back by an unlock,
+/// or go on as another hold: code that drops it doesn't compile.
+#[derive(Debug)]
+pub struct UpgradeGuard {
+    pub lock: u64,
+}
+
 /// An exclusive hold of a lock. It must be given back by an unlock: code that drops it doesn't compile.
 #[derive(Debug)]
 pub struct ExclusiveGuard {

@@ -18,6 +18,14 @@
 //! | `hold` | announcing, swept | exchange: BEGUN alone becomes HELD | exclusive |
 //! | `retract` | announcing | clears BEGUN, sets MAY_DEFER | away |
 //! | `release` | exclusive | clears HELD | away |
+//! | `upgrade_in` | away | exchange: sets UPGRADE | upgrade |
+//! | `upgrade_out` | upgrade | clears UPGRADE | away |
+//! | `upgrade_lower` | upgrade | clears UPGRADE, count + 1 | inline |
+//! | `up` | upgrade | exchange: sets BEGUN, clears MAY_DEFER | announcing from upgrade |
+//! | `up_retract` | announcing from upgrade | clears BEGUN, sets MAY_DEFER | upgrade |
+//! | `hold_from_upgrade` | announcing from upgrade, swept | exchange: BEGUN and UPGRADE alone become HELD | exclusive |
+//! | `exclusive_shared` | exclusive | clears HELD, count + 1 | inline |
+//! | `exclusive_upgrade` | exclusive | clears HELD, sets UPGRADE | upgrade |
 #![tactic(auto)]
 
 pub mod cargo;
@@ -33,11 +41,12 @@ pub mod plays;
 pub mod rule;
 #[cfg(test)]
 mod tests;
+mod upgrade;
 pub mod view;
 
 pub use cargo::{Cargo, CargoRule};
 pub use closing::Closed;
-pub use guards::{Announced, ExclusiveGuard, SharedGuard, TryFault};
+pub use guards::{Announced, ExclusiveGuard, SharedGuard, TryFault, UpgradeGuard};
 pub use hall::{Hall, Pass};
 pub use lock_model::{Mode, Policy};
 pub use making::NoMemory;

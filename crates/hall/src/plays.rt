@@ -74,6 +74,94 @@ impl<C: CargoRule> Play<(), View<C::Part>> for ReleasePlay<C> {
     ghost then = { At (Releases C.CargoRule) };
 }
 
+pub struct UpgradeInPlay<C> {
+    marker: PhantomData<C>,
+}
+
+impl<C: CargoRule> Play<(), View<C::Part>> for UpgradeInPlay<C> {
+    ghost use Rattle.hall.specs.Plays.{TriedAt};
+    ghost use Rattle.hall.specs.Upgrading.{TakesUpgrade, UpgradeMisses};
+
+    ghost then = { TriedAt (TakesUpgrade C.CargoRule) (UpgradeMisses C.CargoRule) };
+}
+
+pub struct UpgradeOutPlay<C> {
+    marker: PhantomData<C>,
+}
+
+impl<C: CargoRule> Play<(), View<C::Part>> for UpgradeOutPlay<C> {
+    ghost use Rattle.hall.specs.Plays.{At};
+    ghost use Rattle.hall.specs.Upgrading.{LeavesUpgrade};
+
+    ghost then = { At (LeavesUpgrade C.CargoRule) };
+}
+
+pub struct UpgradeLowerPlay<C> {
+    marker: PhantomData<C>,
+}
+
+impl<C: CargoRule> Play<(), View<C::Part>> for UpgradeLowerPlay<C> {
+    ghost use Rattle.hall.specs.Plays.{At};
+    ghost use Rattle.hall.specs.Upgrading.{LowersUpgrade};
+
+    ghost then = { At (LowersUpgrade C.CargoRule) };
+}
+
+pub struct UpPlay<C> {
+    marker: PhantomData<C>,
+}
+
+impl<C: CargoRule> Play<(), View<C::Part>> for UpPlay<C> {
+    ghost use Rattle.hall.specs.Plays.{TriedAt};
+    ghost use Rattle.hall.specs.Upgrading.{AnnouncesUp, UpMisses};
+
+    ghost then = { TriedAt (AnnouncesUp C.CargoRule) (UpMisses C.CargoRule) };
+}
+
+pub struct UpRetractPlay<C> {
+    marker: PhantomData<C>,
+}
+
+impl<C: CargoRule> Play<(), View<C::Part>> for UpRetractPlay<C> {
+    ghost use Rattle.hall.specs.Plays.{At};
+    ghost use Rattle.hall.specs.Upgrading.{RetractsUp};
+
+    ghost then = { At (RetractsUp C.CargoRule) };
+}
+
+pub struct HoldUpPlay<C> {
+    marker: PhantomData<C>,
+}
+
+impl<C: CargoRule> Play<(), View<C::Part>> for HoldUpPlay<C> {
+    ghost use Rattle.hall.specs.Plays.{TriedAt, HoldMisses};
+    ghost use Rattle.hall.specs.Upgrading.{HoldingUp};
+
+    ghost then = { TriedAt (HoldingUp C.CargoRule) (HoldMisses C.CargoRule) };
+}
+
+pub struct ExclusiveSharedPlay<C> {
+    marker: PhantomData<C>,
+}
+
+impl<C: CargoRule> Play<(), View<C::Part>> for ExclusiveSharedPlay<C> {
+    ghost use Rattle.hall.specs.Plays.{At};
+    ghost use Rattle.hall.specs.Upgrading.{LowersToShared};
+
+    ghost then = { At (LowersToShared C.CargoRule) };
+}
+
+pub struct ExclusiveUpgradePlay<C> {
+    marker: PhantomData<C>,
+}
+
+impl<C: CargoRule> Play<(), View<C::Part>> for ExclusiveUpgradePlay<C> {
+    ghost use Rattle.hall.specs.Plays.{At};
+    ghost use Rattle.hall.specs.Upgrading.{LowersToUpgrade};
+
+    ghost then = { At (LowersToUpgrade C.CargoRule) };
+}
+
 /// How many numbers and how much of the quota a split gives. The call picks them.
 pub trait Cut {
     ghost use Rattle.std.specs.Prelude.{ℕ};
