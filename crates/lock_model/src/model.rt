@@ -40,14 +40,23 @@ pub enum Role {
 /// What a seat can do at a lock.
 #[derive(Clone, Copy, Debug, PartialEq, Eq)]
 pub enum Act {
+    /// Takes the lock shared, from outside.
     EnterShared,
+    /// Takes it in upgrade mode, from outside.
     EnterUpgrade,
+    /// Announces itself as a writer, from outside or while it holds upgrade.
     Announce,
+    /// Takes the lock exclusively, once announced.
     TakeExclusive,
+    /// Takes its announcement back. A hold of upgrade stays.
     Retract,
+    /// Gives the lock up, in whichever mode it holds it.
     Leave,
+    /// Goes on holding it shared.
     UpgradeToShared,
+    /// Goes on holding it shared.
     ExclusiveToShared,
+    /// Goes on holding it in upgrade mode.
     ExclusiveToUpgrade,
 }
 
@@ -176,9 +185,14 @@ impl ModelLock {
     }
 
     /// Makes the move, or refuses it and changes nothing. It looks at each seat up to three times.
+    ///
+    /// `NotAllowed` comes exactly where the moves of the model don't allow the event. `NoMemory` comes only where they
+    /// do, of a seat that isn't in the list yet.
     pub fn apply(&mut self, event: Event) -> Result<(), Refused>
         ensures ok { OnOk result (after_event self.old event.seat event.act ≡ Some self.new) }
         ensures not_allowed { IsErrOf result Refused.NotAllowed ↔ (after_event self.old event.seat event.act ≡ None) }
+        // To give the seat a role is to add it at the end.
+        ensures no_memory { IsErrOf result Refused.NoMemory → (r : Role) → with_role self.old.seats event.seat r ≡ self.old.seats ++ seat_role event.seat r ∷ [] }
         ensures err { OnErr result (self.new ≡ self.old) }
     {
         let Some(role) = event.act.role_after(self.role(event.seat)) else {
@@ -220,6 +234,7 @@ impl ModelLock {
     fn give(&mut self, seat: u64, role: Role) -> Result<(), Refused>
         ensures ok { OnOk result (self.new ≡ record self.old { seats = with_role self.old.seats seat role }) }
         ensures err { IfErr result (λ e. e ≡ Refused.NoMemory) }
+        ensures new { OnErr result ((r : Role) → with_role self.old.seats seat r ≡ self.old.seats ++ seat_role seat r ∷ []) }
         ensures same { OnErr result (self.new ≡ self.old) }
     {
         match self.place(seat) {
