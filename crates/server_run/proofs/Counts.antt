@@ -1,5 +1,5 @@
 -- How much of the quota, of the ledger's room and of the hall's words the queries that are left need.
-use Rattle.std.proofs.Common.{◌≡◌, ℕ, ◌+◌, ◌-◌, ◌*◌, ◌^◌, ◌<◌, ◌≤◌, Bool, true, false, cond, List, [], ◌∷◌, length, take, drop, get_or, count_by, refl, ap, ◌∙◌, sym, subst, arith, is_some, MatchBool}
+use Rattle.std.proofs.Common.{◌≡◌, ℕ, ◌+◌, ◌-◌, ◌≤◌, Bool, true, false, cond, List, [], ◌∷◌, length, take, drop, get_or, count_by, refl, ap, ◌∙◌, sym, subst, arith, is_some, MatchBool}
 use Rattle.std.proofs.lemmas.List.Sums.{sum_by-cons}
 use Rattle.std.proofs.lemmas.List.{take_rest}
 use Rattle.query_rules.specs.declared.query.Query.{Query}

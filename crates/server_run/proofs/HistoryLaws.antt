@@ -1,5 +1,5 @@
 -- What one caller is told alone is one history.
-use Rattle.std.proofs.Common.{◌≡◌, ℕ, ◌+◌, ◌*◌, ◌-◌, ◌%◌, ◌<◌, ◌≤◌, Bool, true, false, cond, List, [], ◌∷◌, ◌++◌, length, map, take, drop, get_or, refl, sym, ap, ◌∙◌, subst, append_assoc, append-nil, arith, Some, zip, length-append, inl, inr, is_some, MatchBool}
+use Rattle.std.proofs.Common.{◌≡◌, ℕ, ◌+◌, ◌*◌, ◌-◌, ◌%◌, ◌<◌, ◌≤◌, Bool, true, false, cond, List, [], ◌∷◌, ◌++◌, length, map, take, drop, get_or, refl, sym, ap, ◌∙◌, subst, append_assoc, append-nil, arith, zip, length-append, inl, inr, MatchBool}
 use Rattle.std.proofs.Math.Nat.{eq-or-lt_of_le}
 use Rattle.std.specs.List.{AllByRecursion, AllZip}
 use Rattle.std.proofs.lemmas.List.{take_rest, map-append}
@@ -20,8 +20,8 @@ use Rattle.map_cargo.specs.declared.entry.Told.{Told}
 use Rattle.map_cargo.specs.declared.entry.Told.TheVariants.{Wrote, Read}
 use Rattle.map_cargo.specs.Entries.{as_reply}
 use Rattle.query_cells.specs.Asked.{AddsReply, AddsJob, entry_for, is_granted}
-use Rattle.server_run.specs.Alone.{seen_after, told_as, ToldAlone, RanAlone, IsAlone}
-use Rattle.server_run.proofs.JobLaws.{IsJobFrom, jobs_from, job_precedes, ledger_alone}
+use Rattle.server_run.specs.Alone.{seen_after, told_as, ToldAlone, RanAlone, IsAlone, with_entry, entries_told, with_entries}
+use Rattle.server_run.proofs.JobLaws.{jobs_from, job_precedes, ledger_alone}
 use Rattle.server_run.proofs.TurnedLaws.{told_onto, legal_turned}
 
 -- each placed reply stands behind all writes that were seen, and its own is seen then; the others are jobs
@@ -118,9 +118,9 @@ order_alone rows seen accounts p (q ∷ queries) (Job at result ∷ replies) h r
     )
 
 -- a closed hall's replies and the ledger's are one history of the one caller
-pub history_alone : (rows room number : ℕ) (queries : List Query) (replies : List Reply) (first r : Part) (ledger : LedgerView) → first.seen ≡ 0 → first.told ≡ [] → ledger ≡ record { rows = rows; room = room; entries = [] }
-    → IsAlone number 0 first ledger queries replies r → IsLegal rows no_entries (map as_reply r.told) → IsHistory rows (queries ∷ []) (replies ∷ [])
-history_alone rows room number queries replies first r ledger seen told made h legal =
+pub history_alone : (rows room number : ℕ) (queries : List Query) (replies : List Reply) (first r : Part) (ledger later : LedgerView) → first.seen ≡ 0 → first.told ≡ [] → ledger ≡ record { rows = rows; room = room; entries = [] }
+    → IsAlone number 0 first ledger queries replies r later → IsLegal rows no_entries (map as_reply r.told) → IsHistory rows (queries ∷ []) (replies ∷ [])
+history_alone rows room number queries replies first r ledger later seen told made h legal =
     let parts = told_parts number 0 first.seen first.told queries replies r.told h.told in
     let placed : PlacedAlone 0 queries replies = subst (λ n. PlacedAlone n queries replies) seen parts.0 in
     let ran : RanAlone rows no_accounts 0 queries replies = subst (λ (l : LedgerView). RanAlone l.rows (accounts_in l) (length l.entries) queries replies) made h.ran in
@@ -170,10 +170,24 @@ accounts_push rows entries e =
     let act : LedgerEntry → LedgerAct = λ x. x.act in
     ap (λ (l : List LedgerAct). run_all rows no_accounts l) (map-append act entries (e ∷ [])) ∙ run_all_push rows no_accounts (map act entries) e.act
 
+abbrev view_of : ℕ → ℕ → List LedgerEntry → LedgerView
+view_of rows room entries = record { rows = rows; room = room; entries = entries }
+
+same_view : (rows m n : ℕ) (k l : List LedgerEntry) → m ≡ n → k ≡ l → view_of rows m k ≡ view_of rows n l
+same_view rows m n k l room entries = ap (λ x. view_of rows x k) room ∙ ap (view_of rows n) entries
+
+-- no entry more leaves a ledger as it was
+none_more : (ledger : LedgerView) → ledger ≡ with_entries ledger []
+none_more ledger = same_view ledger.rows ledger.room (ledger.room - 0) ledger.entries (ledger.entries ++ []) (omega arith) (sym (append-nil ledger.entries))
+
+-- one entry more and then others are these entries more
+one_more : (old : LedgerView) (e : LedgerEntry) (later : List LedgerEntry) → with_entries (view_of old.rows (old.room - 1) (old.entries ++ e ∷ [])) later ≡ with_entries old (e ∷ later)
+one_more old e later = same_view old.rows (old.room - 1 - length later) (old.room - length (e ∷ later)) ((old.entries ++ e ∷ []) ++ later) (old.entries ++ e ∷ later) (omega arith) (append_assoc old.entries (e ∷ []) later)
+
 -- what one reply leaves, and what is told from there on, is told from before it on
 alone_next : (number index : ℕ) (q : Query) (reply : Reply) (p r : Part) (old new : LedgerView) → AddsReply number index q reply p r → AddsJob number index q reply old new → IsKindFor q reply → is_granted reply ≡ true
-    → (qs : List Query) (rs : List Reply) (w : Part) → IsAlone number (index + 1) r new qs rs w → IsAlone number index p old (q ∷ qs) (reply ∷ rs) w
-alone_next number index q (Placed place said) p r old new h job kind granted qs rs w next =
+    → (qs : List Query) (rs : List Reply) (w : Part) (later : LedgerView) → IsAlone number (index + 1) r new qs rs w later → IsAlone number index p old (q ∷ qs) (reply ∷ rs) w later
+alone_next number index q (Placed place said) p r old new h job kind granted qs rs w later next =
     let e : Entry = entry_for number index q said in
     let t = placed_told h.0 e p r (is_write said) h.3 in
     let here : ToldAlone number (index + 1) (seen_after h.0 said) r.told qs rs w.told = subst (λ s. ToldAlone number (index + 1) s r.told qs rs w.told) t.0 next.told in
@@ -181,10 +195,11 @@ alone_next number index q (Placed place said) p r old new h job kind granted qs 
       kinds = (kind, next.kinds);
       told = (h.0, h.1, h.2, subst (λ (l : List Told). ToldAlone number (index + 1) (seen_after h.0 said) l qs rs w.told) t.1 here);
       ran = subst (λ (l : LedgerView). RanAlone l.rows (accounts_in l) (length l.entries) qs rs) job next.ran;
+      kept = next.kept ∙ ap (λ (l : LedgerView). with_entries l (entries_told number (index + 1) qs rs)) job;
     }
-alone_next number index q Busy p r old new h job kind granted qs rs w next = absurd (let bad : false ≡ true = granted in cc)
-alone_next number index q (Late now) p r old new h job kind granted qs rs w next = absurd (let bad : false ≡ true = granted in cc)
-alone_next number index q (Job at result) p r old new h job kind granted qs rs w next =
+alone_next number index q Busy p r old new h job kind granted qs rs w later next = absurd (let bad : false ≡ true = granted in cc)
+alone_next number index q (Late now) p r old new h job kind granted qs rs w later next = absurd (let bad : false ≡ true = granted in cc)
+alone_next number index q (Job at result) p r old new h job kind granted qs rs w later next =
     let act : LedgerAct = job.0 in
     let e : LedgerEntry = record { caller = number; index = index; act = act; result = result } in
     let R : Accounts → ℕ → Type 0 = λ a n. RanAlone old.rows a n qs rs in
@@ -192,24 +207,26 @@ alone_next number index q (Job at result) p r old new h job kind granted qs rs w
     let r1 : R (accounts_of old.rows (accounts_in old) act) (length (old.entries ++ e ∷ [])) = subst (λ (a : Accounts). R a (length (old.entries ++ e ∷ []))) (accounts_push old.rows old.entries e) r0 in
     let here : ToldAlone number (index + 1) p.seen r.told qs rs w.told = subst (λ s. ToldAlone number (index + 1) s r.told qs rs w.told) h.1 next.told in
     let len : length (old.entries ++ e ∷ []) ≡ length old.entries + 1 = length-append old.entries (e ∷ []) in
+    let more : List LedgerEntry = entries_told number (index + 1) qs rs in
     record {
       kinds = (kind, next.kinds);
       told = subst (λ (l : List Told). ToldAlone number (index + 1) p.seen l qs rs w.told) h.0 here;
       ran = (act, job.1, job.2, job.3, subst (λ n. R (accounts_of old.rows (accounts_in old) act) n) len r1);
+      kept = next.kept ∙ ap (λ (l : LedgerView). with_entries l more) job.4 ∙ one_more old e more ∙ ap (λ o. with_entries old (with_entry number index o result more)) (sym job.1);
     }
 
 -- one reply more: whatever was right behind the replies so far still is
-pub ask_next : (number mine index : ℕ) (rest : List Query) (d : Query) (done done' : List Reply) (reply : Reply) (p r : Part) (old new : LedgerView) (F : List Reply → Part → Type 0) → 1 ≤ length rest → mine ≡ number
+pub ask_next : (number mine index : ℕ) (rest : List Query) (d : Query) (done done' : List Reply) (reply : Reply) (p r : Part) (old new : LedgerView) (F : List Reply → Part → LedgerView → Type 0) → 1 ≤ length rest → mine ≡ number
     → AddsReply mine index (get_or rest 0 d) reply p r → AddsJob mine index (get_or rest 0 d) reply old new → IsKindFor (get_or rest 0 d) reply → is_granted reply ≡ true → done' ≡ done ++ reply ∷ []
-    → ((more : List Reply) (w : Part) → IsAlone number index p old rest more w → F (done ++ more) w)
-    → (more : List Reply) (w : Part) → IsAlone number (index + 1) r new (take (length rest - 1) (drop 1 rest)) more w → F (done' ++ more) w
-ask_next number mine index [] d done done' reply p r old new F some is h job kind granted hd inv more w next = absurd (omega (arith, some))
-ask_next number mine index (q ∷ qs) d done done' reply p r old new F some is h job kind granted hd inv more w next =
-    let here : IsAlone number (index + 1) r new qs more w = subst (λ (l : List Query). IsAlone number (index + 1) r new l more w) (take_rest (q ∷ qs) 1) next in
+    → ((more : List Reply) (w : Part) (later : LedgerView) → IsAlone number index p old rest more w later → F (done ++ more) w later)
+    → (more : List Reply) (w : Part) (later : LedgerView) → IsAlone number (index + 1) r new (take (length rest - 1) (drop 1 rest)) more w later → F (done' ++ more) w later
+ask_next number mine index [] d done done' reply p r old new F some is h job kind granted hd inv more w later next = absurd (omega (arith, some))
+ask_next number mine index (q ∷ qs) d done done' reply p r old new F some is h job kind granted hd inv more w later next =
+    let here : IsAlone number (index + 1) r new qs more w later = subst (λ (l : List Query). IsAlone number (index + 1) r new l more w later) (take_rest (q ∷ qs) 1) next in
     let same : done' ++ more ≡ done ++ (reply ∷ more) = ap (λ l. l ++ more) hd ∙ append_assoc done (reply ∷ []) more in
-    subst (λ (l : List Reply). F l w) (sym same) (inv (reply ∷ more) w (alone_next number index q reply p r old new (subst (λ n. AddsReply n index q reply p r) is h) (subst (λ n. AddsJob n index q reply old new) is job) kind granted qs more w here))
+    subst (λ (l : List Reply). F l w later) (sym same) (inv (reply ∷ more) w later (alone_next number index q reply p r old new (subst (λ n. AddsReply n index q reply p r) is h) (subst (λ n. AddsJob n index q reply old new) is job) kind granted qs more w later here))
 
 -- no query is left
-pub ask_end : (number index : ℕ) (p : Part) (ledger : LedgerView) (rest : List Query) (done : List Reply) (F : List Reply → Part → Type 0) → length rest < 1 → ((more : List Reply) (w : Part) → IsAlone number index p ledger rest more w → F (done ++ more) w) → F done p
-ask_end number index p ledger [] done F none inv = subst (λ (l : List Reply). F l p) (append-nil done) (inv [] p (record { kinds = tt; told = refl; ran = tt }))
+pub ask_end : (number index : ℕ) (p : Part) (ledger : LedgerView) (rest : List Query) (done : List Reply) (F : List Reply → Part → LedgerView → Type 0) → length rest < 1 → ((more : List Reply) (w : Part) (later : LedgerView) → IsAlone number index p ledger rest more w later → F (done ++ more) w later) → F done p ledger
+ask_end number index p ledger [] done F none inv = subst (λ (l : List Reply). F l p ledger) (append-nil done) (inv [] p ledger (record { kinds = tt; told = refl; ran = tt; kept = none_more ledger }))
 ask_end number index p ledger (q ∷ qs) done F none inv = absurd (omega (arith, none))

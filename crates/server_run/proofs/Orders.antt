@@ -1,5 +1,5 @@
 -- The order of a log, and the log itself.
-use Rattle.std.proofs.Common.{◌≡◌, ℕ, suc, List, [], ◌∷◌, ◌++◌, length, get_or, Option, Some, None, ◌<◌, take, drop, refl, sym, ap, ◌∙◌, subst, arith, sum_by, length-append, ◌+◌, ◌≤◌}
+use Rattle.std.proofs.Common.{◌≡◌, ℕ, suc, List, [], ◌∷◌, ◌++◌, length, get_or, Some, ◌<◌, take, drop, refl, sym, ap, ◌∙◌, subst, arith, sum_by, length-append, ◌+◌, ◌≤◌}
 use Rattle.std.proofs.lemmas.List.Sums.{sum_by-cons}
 use Rattle.std.proofs.Math.Seq.{take-append_seam, drop-append_seam, drop-cons}
 use Rattle.std.specs.Prelude.{IsPermutation, IsSorted}

@@ -1,5 +1,5 @@
 -- What a pass told, the newest first and without the jobs, is legal where it is so in the order of the replies.
-use Rattle.std.proofs.Common.{◌≡◌, ℕ, ◌+◌, ◌*◌, ◌<◌, ◌==◌, Bool, false, cond, List, [], ◌∷◌, length, refl, ap, arith, zip, count_by}
+use Rattle.std.proofs.Common.{◌≡◌, ℕ, ◌+◌, ◌*◌, ◌==◌, Bool, false, cond, List, [], ◌∷◌, refl, ap, arith, zip, count_by}
 use Rattle.std.proofs.lemmas.List.Sums.{sum_by-cons}
 use Rattle.std.specs.List.{AllByRecursion}
 use Rattle.query_rules.specs.declared.query.Query.{Query}

@@ -10,6 +10,7 @@
 //! form of one history, and every other status has its cause.
 #![tactic(auto)]
 
+mod caller;
 mod order;
 mod reserved;
 mod room;
