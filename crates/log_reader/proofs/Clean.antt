@@ -83,6 +83,10 @@ pub all_append : {X : Type 0} (P : X → Type 0) (xs ys : List X) → AllByRecur
 all_append P [] ys a b = b
 all_append P (x ∷ xs) ys a b = (a.0, all_append P xs ys a.1 b)
 
+pub all_weaker : {X : Type 0} (P Q : X → Type 0) → ((x : X) → P x → Q x) → (xs : List X) → AllByRecursion P xs → AllByRecursion Q xs
+all_weaker P Q f [] all = tt
+all_weaker P Q f (x ∷ xs) all = (f x all.0, all_weaker P Q f xs all.1)
+
 all_space : (ws : List (List ℕ)) → AllByRecursion Clean ws → AllByRecursion (Lacks 32) ws
 all_space [] all = tt
 all_space (w ∷ ws) all = (all.0.space, all_space ws all.1)

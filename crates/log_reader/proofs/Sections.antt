@@ -19,7 +19,7 @@ use Rattle.query_rules.specs.Log.{key_in, spots_with, spots_from, spots_of, aske
 use Rattle.log_reader.specs.declared.answered.Answered.{Answered}
 use Rattle.log_reader.specs.Listing.{answered_line, line_cmp, section_of, counts, lines_total, lines_totals}
 use Rattle.log_reader.specs.LogText.{answered_from, answered_of, IsPaired}
-use Rattle.log_reader.proofs.Clean.{all_append}
+use Rattle.log_reader.proofs.Clean.{all_append, all_weaker}
 use Rattle.log_reader.proofs.Orders.{spot_of, IsIn, line_lt, line_order, cmp_false, sorted_tail}
 
 abbrev pub is_in : ℕ → Answered → Bool
@@ -222,10 +222,6 @@ record IsFrom (i : ℕ) (qs : List Query) (rs : List Reply) (a : Answered) : Typ
   past : i ≤ a.index
   asks : slice_get qs (a.index - i) ≡ Some a.query
   tells : slice_get rs (a.index - i) ≡ Some a.reply
-
-all_weaker : (P Q : Answered → Type 0) → ((a : Answered) → P a → Q a) → (lines : List Answered) → AllByRecursion P lines → AllByRecursion Q lines
-all_weaker P Q f [] all = tt
-all_weaker P Q f (a ∷ lines) all = (f a all.0, all_weaker P Q f lines all.1)
 
 one_later : (i : ℕ) (q : Query) (r : Reply) (qs : List Query) (rs : List Reply) (a : Answered) → IsFrom (i + 1) qs rs a → IsFrom i (q ∷ qs) (r ∷ rs) a
 one_later i q r qs rs a h =

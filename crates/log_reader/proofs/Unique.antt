@@ -15,7 +15,7 @@ use Rattle.log_reader.specs.declared.answered.Answered.{Answered}
 use Rattle.log_reader.specs.Listing.{IsWritable}
 use Rattle.log_reader.specs.LogText.{answered_from, answered_of}
 use Rattle.log_reader.specs.Grouping.{slot}
-use Rattle.log_reader.proofs.Clean.{all_append}
+use Rattle.log_reader.proofs.Clean.{all_append, all_weaker}
 
 -- each line's number is below those of the later ones
 abbrev pub Rises : List Answered → Type 0
@@ -52,10 +52,6 @@ same_rising (e ∷ es) (f ∷ fs) re rf ef fe =
     ap (λ z. z ∷ es) first ∙ ap (λ zs. f ∷ zs) more
 
 -- ---- the lines of lists rise
-weaker : (P Q : Answered → Type 0) → ((x : Answered) → P x → Q x) → (xs : List Answered) → AllByRecursion P xs → AllByRecursion Q xs
-weaker P Q f [] all = tt
-weaker P Q f (x ∷ xs) all = (f x all.0, weaker P Q f xs all.1)
-
 pub all_parts : (P : Answered → Type 0) (xs ys : List Answered) → AllByRecursion P (xs ++ ys) → AllByRecursion P xs × AllByRecursion P ys
 all_parts P [] ys all = (tt, all)
 all_parts P (x ∷ xs) ys all = let more = all_parts P xs ys all.1 in ((all.0, more.0), more.1)
@@ -64,7 +60,7 @@ rises_append : (n : ℕ) (xs ys : List Answered) → AllByRecursion (λ b. slot 
 rises_append n [] ys low high rx ry = ry
 rises_append n (x ∷ xs) ys low high rx ry =
     let lt : slot x < n = low.0 in
-    (all_append (λ b. slot x < slot b) xs ys rx.0 (weaker (λ b. n ≤ slot b) (λ b. slot x < slot b) (λ b h. omega (arith, lt, h)) ys high), rises_append n xs ys low.1 high rx.1 ry)
+    (all_append (λ b. slot x < slot b) xs ys rx.0 (all_weaker (λ b. n ≤ slot b) (λ b. slot x < slot b) (λ b h. omega (arith, lt, h)) ys high), rises_append n xs ys low.1 high rx.1 ry)
 
 up_from : (c i : ℕ) (qs : List Query) (rs : List Reply) → AllByRecursion IsWritable (answered_from c i qs rs)
     → AllByRecursion (λ b. c * 2 ^ 64 + i ≤ slot b) (answered_from c i qs rs) × AllByRecursion (λ b. slot b < (c + 1) * 2 ^ 64) (answered_from c i qs rs) × Rises (answered_from c i qs rs)
@@ -73,8 +69,8 @@ up_from c i (q ∷ qs) [] fits = (tt, tt, tt)
 up_from c i (q ∷ qs) (r ∷ rs) fits =
     let more = up_from c (i + 1) qs rs fits.1 in
     let index : i < 2 ^ 64 = fits.0.index in
-    let later = weaker (λ b. c * 2 ^ 64 + (i + 1) ≤ slot b) (λ b. c * 2 ^ 64 + i < slot b) (λ b h. omega (arith, h)) (answered_from c (i + 1) qs rs) more.0 in
-    let least = weaker (λ b. c * 2 ^ 64 + (i + 1) ≤ slot b) (λ b. c * 2 ^ 64 + i ≤ slot b) (λ b h. omega (arith, h)) (answered_from c (i + 1) qs rs) more.0 in
+    let later = all_weaker (λ b. c * 2 ^ 64 + (i + 1) ≤ slot b) (λ b. c * 2 ^ 64 + i < slot b) (λ b h. omega (arith, h)) (answered_from c (i + 1) qs rs) more.0 in
+    let least = all_weaker (λ b. c * 2 ^ 64 + (i + 1) ≤ slot b) (λ b. c * 2 ^ 64 + i ≤ slot b) (λ b h. omega (arith, h)) (answered_from c (i + 1) qs rs) more.0 in
     ((omega arith, least), (omega (arith, index), more.1), (later, more.2))
 
 up_of : (c : ℕ) (asked : List (List Query)) (told : List (List Reply)) → AllByRecursion IsWritable (answered_of c asked told)
@@ -85,8 +81,8 @@ up_of c (qs ∷ asked) (rs ∷ told) fits =
     let parts = all_parts IsWritable (answered_from c 0 qs rs) (answered_of (c + 1) asked told) fits in
     let first = up_from c 0 qs rs parts.0 in
     let more = up_of (c + 1) asked told parts.1 in
-    let low = weaker (λ b. c * 2 ^ 64 + 0 ≤ slot b) (λ b. c * 2 ^ 64 ≤ slot b) (λ b h. omega (arith, h)) (answered_from c 0 qs rs) first.0 in
-    let high = weaker (λ b. (c + 1) * 2 ^ 64 ≤ slot b) (λ b. c * 2 ^ 64 ≤ slot b) (λ b h. omega (arith, h)) (answered_of (c + 1) asked told) more.0 in (
+    let low = all_weaker (λ b. c * 2 ^ 64 + 0 ≤ slot b) (λ b. c * 2 ^ 64 ≤ slot b) (λ b h. omega (arith, h)) (answered_from c 0 qs rs) first.0 in
+    let high = all_weaker (λ b. (c + 1) * 2 ^ 64 ≤ slot b) (λ b. c * 2 ^ 64 ≤ slot b) (λ b h. omega (arith, h)) (answered_of (c + 1) asked told) more.0 in (
       all_append (λ b. c * 2 ^ 64 ≤ slot b) (answered_from c 0 qs rs) (answered_of (c + 1) asked told) low high,
       rises_append ((c + 1) * 2 ^ 64) (answered_from c 0 qs rs) (answered_of (c + 1) asked told) first.1 more.0 first.2 more.1,
     )
@@ -97,7 +93,7 @@ lists_rise asked told fits = (up_of 0 asked told fits).1
 -- ---- the same lines in another order
 in_self : (xs : List Answered) → AllByRecursion (λ x. In x xs) xs
 in_self [] = tt
-in_self (x ∷ xs) = (inl refl, weaker (λ y. In y xs) (λ y. In y (x ∷ xs)) (λ y h. inr h) xs (in_self xs))
+in_self (x ∷ xs) = (inl refl, all_weaker (λ y. In y xs) (λ y. In y (x ∷ xs)) (λ y h. inr h) xs (in_self xs))
 
 pub all_moved : (P : Answered → Type 0) (xs ys : List Answered) → IsPermutation xs ys → AllByRecursion P xs → AllByRecursion P ys
 all_moved P xs ys moved all = recursion_from_All P ys (All-permutation P xs ys moved (All-from_recursion P xs all))
