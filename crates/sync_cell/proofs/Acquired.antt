@@ -1,5 +1,5 @@
 -- What a hold that was gained at last left elsewhere, and which steps it made.
-use Rattle.std.specs.Prelude.{◌≡◌, ℕ, ◌+◌, true, false, List, [], ◌∷◌, None, slice_index_or}
+use Rattle.std.specs.Prelude.{◌≡◌, ℕ, ◌+◌, true, false, List, [], ◌∷◌, None}
 use Rattle.std.proofs.Common.{refl, ap, ◌∙◌}
 use Rattle.std.proofs.lemmas.List.Elements.{All-nil, All-cons}
 use Rattle.hall.specs.declared.cargo.CargoRule.{Ghosts}
@@ -12,17 +12,11 @@ use Rattle.hall.specs.declared.view.Standing.TheVariants.{Away, Announcing}
 use Rattle.hall.specs.declared.view.View.{View}
 use Rattle.hall.specs.Plays.{Retracts}
 use Rattle.hall.specs.Views.{after_look, after_step, entry_of, mode_of, standing}
-use Rattle.shared_mutex.specs.Acquiring.{ElsewhereSame}
 use Rattle.sync_cell.specs.Tries.{AddsSteps, AnnouncesAtLast, EntersAtLast, HoldsAtLast, IsLook, IsPatientTry, IsTry, OnlyLooked, is_retract}
 use Rattle.sync_cell.specs.TryLaws.{adds_as, adds_then, looked_once}
+use Rattle.sync_cell.specs.AttemptLaws.{stands_still}
 
 module _ {P : Type 0} where
-  pub still_elsewhere : (v u w : View P) (lock : ℕ) → OnlyLooked v lock u → ElsewhereSame u w lock → ElsewhereSame v w lock
-  still_elsewhere v u w lock looked same = λ k ne. same k ne ∙ ap (λ (l : List Standing). slice_index_or l k Away) looked.standings
-
-  pub stands_still : (v u : View P) (lock : ℕ) → OnlyLooked v lock u → standing u lock ≡ standing v lock
-  stands_still v u lock looked = ap (λ (l : List Standing). slice_index_or l lock Away) looked.standings
-
   -- it is the same pass of the same hall
   abbrev Kept : View P → View P → Type 0
   Kept v w = (w.number ≡ v.number) × (w.shape ≡ v.shape)

@@ -1,2 +1,4 @@
 mod Acquired
+mod Counted
 mod InTime
+mod Tried

@@ -1,5 +1,9 @@
+pub mod Cells
 pub mod Tries
 pub mod TryLaws
+pub mod Attempts
+pub mod AttemptLaws
 pub mod Waits
 pub mod Refused
 pub mod Within
+pub mod WithinLaws

@@ -1,15 +1,21 @@
 //! What no clause says: that the words are those that are meant, and how often the clock is asked.
-ghost use Rattle.std.specs.Prelude.{◌≡◌, ◌<◌};
+ghost use Rattle.std.specs.Prelude.{◌≡◌, ◌≢◌, ◌<◌, ℕ};
 ghost use Rattle.hall.specs.Passes.{view, IsPassOf, shape_of};
 ghost use Rattle.hall.specs.Views.{standing};
-ghost use Rattle.hall.specs.declared.view.Standing.TheVariants.{Away};
+ghost use Rattle.hall.specs.declared.view.Standing.TheVariants.{Away, Inline, Exclusive};
+ghost use Rattle.query_rules.specs.Maps.{no_entries};
+ghost use Rattle.map_cargo.specs.History.{IsSettled, IsRested};
+ghost use Rattle.map_cargo.specs.Steps.{Gained, IsIdle};
+ghost use Rattle.sync_cell.specs.Within.{KeepsModes};
 
 use crate::{
-    ReadPtr, ReadWork, WritePtr, WriteWork, rlock, rlock_until, try_rlock, try_wlock, unlock_read,
-    unlock_write, with_rlock, with_wlock, wlock, wlock_until,
+    ReadPtr, WritePtr, rlock, rlock_until, try_rlock, try_wlock, unlock_read, unlock_write,
+    with_rlock, with_wlock, wlock, wlock_until,
 };
-use hall::{Hall, NoCargo, Pass, Policy, TryFault, Word};
+use hall::{Hall, Pass, Policy, TryFault, Word};
+use map_cargo::MapCargo;
 use ql_base::{Clock, ListClock};
+use shared_mutex::{announce, retract};
 use std::alloc::AllocError;
 use std::process::Abort;
 use std::sync::Wait;
@@ -18,11 +24,59 @@ use timed_wait::Late;
 
 const ONE: u64 = 4294967296;
 
+// Waits for cell 0 and holds it for writing.
+fn hold<R: Wait>(rt: &R, hall: &Hall<MapCargo>, pass: &mut Pass<MapCargo>) -> WritePtr
+    requires pass { IsPassOf hall.now pass.old }
+    requires lock { 0 < (shape_of hall.now).locks }
+    requires idle { IsIdle (view pass.old) }
+    ensures pass { IsPassOf hall.now pass.new }
+    ensures held { (result.guard.lock ≡ 0) × (standing (view pass.new) 0 ≡ Exclusive) }
+    ensures others { (k : ℕ) → k ≢ 0 → standing (view pass.new) k ≡ Away }
+    ensures gained { Gained no_entries 0 (view pass.old) (view pass.new) }
+{
+    wlock(rt, hall, pass, 0)
+}
+
+// The same by a deadline that is past: cell 0 has to be free.
+fn hold_at_once<A: Abort + Wait>(
+    rt: &A,
+    hall: &Hall<MapCargo>,
+    pass: &mut Pass<MapCargo>,
+    clock: &mut ListClock,
+) -> WritePtr
+    requires pass { IsPassOf hall.now pass.old }
+    requires lock { 0 < (shape_of hall.now).locks }
+    requires idle { IsIdle (view pass.old) }
+    ensures pass { IsPassOf hall.now pass.new }
+    ensures held { (result.guard.lock ≡ 0) × (standing (view pass.new) 0 ≡ Exclusive) }
+    ensures others { (k : ℕ) → k ≢ 0 → standing (view pass.new) k ≡ Away }
+    ensures gained { Gained no_entries 0 (view pass.old) (view pass.new) }
+{
+    match wlock_until(rt, hall, pass, 0, clock, 0) {
+        Ok(ptr) => ptr,
+        Err(_) => rt.abort(),
+    }
+}
+
+// Gives a cell back that was held for writing: the pass is idle again.
+fn give_back(hall: &Hall<MapCargo>, pass: &mut Pass<MapCargo>, ptr: WritePtr)
+    requires pass { IsPassOf hall.now pass.old }
+    requires cell { ptr.guard.lock < (shape_of hall.now).locks }
+    requires held { standing (view pass.old) ptr.guard.lock ≡ Exclusive }
+    requires others { (k : ℕ) → k ≢ ptr.guard.lock → standing (view pass.old) k ≡ Away }
+    requires settled { IsSettled no_entries ptr.guard.lock (view pass.old).part }
+    requires rested { IsRested (view pass.old).part }
+    ensures pass { IsPassOf hall.now pass.new }
+    ensures idle { IsIdle (view pass.new) }
+{
+    unlock_write(hall, pass, ptr);
+}
+
 // A call to read cell 0 that has to be late so.
 fn no_reader<A: Abort + Wait>(
     rt: &A,
-    hall: &Hall<NoCargo>,
-    pass: &mut Pass<NoCargo>,
+    hall: &Hall<MapCargo>,
+    pass: &mut Pass<MapCargo>,
     clock: &mut ListClock,
     expected: Late<TryFault>,
 )
@@ -31,27 +85,59 @@ fn no_reader<A: Abort + Wait>(
     ensures pass { IsPassOf hall.now pass.new × (standing (view pass.new) 0 ≡ Away) }
 {
     match rlock_until(rt, hall, pass, 0, clock, expected.deadline) {
-        Ok(ptr) => {
-            unlock_read(hall, pass, ptr);
-            assert!(rt; false);
-        }
+        Ok(_) => rt.abort(),
         Err(late) => assert_eq!(rt; late, expected),
     }
 }
 
+// A call to write cell 0 that has to be late so.
+fn no_writer<A: Abort + Wait>(
+    rt: &A,
+    hall: &Hall<MapCargo>,
+    pass: &mut Pass<MapCargo>,
+    clock: &mut ListClock,
+    expected: Late<TryFault>,
+)
+    requires pass { IsPassOf hall.now pass.old × (0 < (shape_of hall.now).locks) }
+    requires away { standing (view pass.old) 0 ≡ Away }
+    ensures pass { IsPassOf hall.now pass.new × (standing (view pass.new) 0 ≡ Away) }
+{
+    match wlock_until(rt, hall, pass, 0, clock, expected.deadline) {
+        Ok(_) => rt.abort(),
+        Err(late) => assert_eq!(rt; late, expected),
+    }
+}
+
+// A try to write cell 0 that has to be refused so.
+fn no_try<A: Abort>(rt: &A, hall: &Hall<MapCargo>, pass: &mut Pass<MapCargo>, expected: TryFault)
+    requires pass { IsPassOf hall.now pass.old × (0 < (shape_of hall.now).locks) }
+    requires away { standing (view pass.old) 0 ≡ Away }
+    ensures pass { IsPassOf hall.now pass.new × (standing (view pass.new) 0 ≡ Away) }
+{
+    match try_wlock(hall, pass, 0) {
+        Ok(_) => rt.abort(),
+        Err(fault) => assert_eq!(rt; fault, expected),
+    }
+}
+
 // Beside a writer: late at the first answer that isn't below the deadline. The answer that comes next shows how many
-// tries there were.
+// tries there were. The clocks rise, fall and jump.
 #[test]
 fn readers_are_late(rt: HostRuntime) -> Result<(), AllocError> {
-    let made = Hall::make(rt.alloc(), 1, 32, Policy::WritePriority, 2, 0, NoCargo);
+    let cargo = MapCargo {
+        cells: 1,
+        rows: 1,
+        writes: 1,
+    };
+    let made = Hall::make(rt.alloc(), 1, 32, Policy::WritePriority, 2, 0, cargo);
     let Ok((hall, first)) = made else { rt.abort() };
     let mut writer = first;
     let mut reader = hall.split(&mut writer, 1, 0);
     let mut even = ListClock::new(vec![in rt.alloc(); 0, 3, 5, 4]?);
     let mut falling = ListClock::new(vec![in rt.alloc(); 9, 3]?);
     let mut jumping = ListClock::new(vec![in rt.alloc(); 6, 2, 6, 7, 1]?);
-    let ptr = wlock(&rt, &hall, &mut writer, 0);
-    assert_eq!(rt; hall.load(&mut writer, 0), Word(8));
+    let ptr = hold(&rt, &hall, &mut writer);
+    assert_eq!(rt; hall.load(&mut reader, 0), Word(8));
     let fault = TryFault::Busy { word: Word(8) };
 
     let (now, deadline) = (5, 5);
@@ -96,34 +182,36 @@ fn readers_are_late(rt: HostRuntime) -> Result<(), AllocError> {
     );
     assert_eq!(rt; jumping.now(), 1);
 
-    unlock_write(&hall, &mut writer, ptr);
+    give_back(&hall, &mut writer, ptr);
     Ok(())
 }
 
 // A free cell is taken past the deadline too, and the clock isn't asked.
 #[test]
 fn a_free_cell_is_taken(rt: HostRuntime) -> Result<(), AllocError> {
-    let made = Hall::make(rt.alloc(), 1, 32, Policy::WritePriority, 1, 0, NoCargo);
+    let cargo = MapCargo {
+        cells: 1,
+        rows: 1,
+        writes: 1,
+    };
+    let made = Hall::make(rt.alloc(), 1, 32, Policy::WritePriority, 2, 0, cargo);
     let Ok((hall, first)) = made else { rt.abort() };
     let mut pass = first;
+    let mut other = hall.split(&mut pass, 1, 0);
     let mut clock = ListClock::new(vec![in rt.alloc(); 7, 8]?);
-    match rlock_until(&rt, &hall, &mut pass, 0, &mut clock, 0) {
+    match rlock_until(&rt, &hall, &mut other, 0, &mut clock, 0) {
         Ok(ptr) => {
             assert_eq!(rt; ptr.cell(), 0);
-            assert_eq!(rt; hall.load(&mut pass, 0), Word(ONE));
-            unlock_read(&hall, &mut pass, ptr);
+            assert_eq!(rt; hall.load(&mut other, 0), Word(ONE));
+            unlock_read(&hall, &mut other, ptr);
         }
-        Err(_) => assert!(rt; false),
+        Err(_) => rt.abort(),
     }
-    match wlock_until(&rt, &hall, &mut pass, 0, &mut clock, 0) {
-        Ok(ptr) => {
-            assert_eq!(rt; ptr.cell(), 0);
-            assert_eq!(rt; hall.load(&mut pass, 0), Word(8));
-            unlock_write(&hall, &mut pass, ptr);
-        }
-        Err(_) => assert!(rt; false),
-    }
-    assert_eq!(rt; hall.load(&mut pass, 0), Word(0));
+    let ptr = hold_at_once(&rt, &hall, &mut pass, &mut clock);
+    assert_eq!(rt; ptr.cell(), 0);
+    assert_eq!(rt; hall.load(&mut other, 0), Word(8));
+    give_back(&hall, &mut pass, ptr);
+    assert_eq!(rt; hall.load(&mut other, 0), Word(0));
     assert_eq!(rt; clock.now(), 7, "the clock was asked");
     Ok(())
 }
@@ -131,137 +219,211 @@ fn a_free_cell_is_taken(rt: HostRuntime) -> Result<(), AllocError> {
 // A writer that is late beside a reader leaves the reader's word, and readers may defer again.
 #[test]
 fn a_late_writer_is_away(rt: HostRuntime) -> Result<(), AllocError> {
-    let made = Hall::make(rt.alloc(), 1, 32, Policy::WritePriority, 2, 0, NoCargo);
+    let cargo = MapCargo {
+        cells: 1,
+        rows: 1,
+        writes: 1,
+    };
+    let made = Hall::make(rt.alloc(), 1, 32, Policy::WritePriority, 2, 0, cargo);
     let Ok((hall, first)) = made else { rt.abort() };
     let mut reader = first;
     let mut writer = hall.split(&mut reader, 1, 0);
     let mut clock = ListClock::new(vec![in rt.alloc(); 1, 6, 2]?);
     let held = rlock(&rt, &hall, &mut reader, 0);
-    match wlock_until(&rt, &hall, &mut writer, 0, &mut clock, 6) {
-        Ok(ptr) => {
-            unlock_write(&hall, &mut writer, ptr);
-            assert!(rt; false);
-        }
-        Err(late) => {
-            let fault = TryFault::Busy {
-                word: Word(ONE + 4),
-            };
-            assert_eq!(rt;
-                late,
-                Late {
-                    now: 6,
-                    deadline: 6,
-                    fault
-                }
-            );
-        }
-    }
+    let fault = TryFault::Busy {
+        word: Word(ONE + 4),
+    };
+    let (now, deadline) = (6, 6);
+    no_writer(
+        &rt,
+        &hall,
+        &mut writer,
+        &mut clock,
+        Late {
+            now,
+            deadline,
+            fault,
+        },
+    );
     assert_eq!(rt; clock.now(), 2);
     assert_eq!(rt; hall.load(&mut writer, 0), Word(4294967297));
+    no_try(&rt, &hall, &mut writer, fault);
     unlock_read(&hall, &mut reader, held);
     Ok(())
 }
 
+// A seat stops after it announced a writer. Under write priority nobody gets in: each try is refused for the word 4, and
+// each wait is late with it, at the clock's answer. After it took the announcement back, readers and writers get in.
 #[test]
-fn tries_beside_a_reader(rt: HostRuntime) {
-    let made = Hall::make(rt.alloc(), 1, 32, Policy::WritePriority, 2, 0, NoCargo);
+fn a_paused_writer_under_write_priority(rt: HostRuntime) -> Result<(), AllocError> {
+    let cargo = MapCargo {
+        cells: 1,
+        rows: 1,
+        writes: 1,
+    };
+    let made = Hall::make(rt.alloc(), 1, 32, Policy::WritePriority, 2, 0, cargo);
     let Ok((hall, first)) = made else { rt.abort() };
-    let mut reader = first;
-    let mut other = hall.split(&mut reader, 1, 0);
-    match try_rlock(&hall, &mut reader, 0) {
-        Ok(held) => {
-            match try_wlock(&hall, &mut other, 0) {
-                Ok(ptr) => {
-                    unlock_write(&hall, &mut other, ptr);
-                    assert!(rt; false);
-                }
-                Err(fault) => {
-                    let word = Word(ONE + 4);
-                    assert_eq!(rt; fault, TryFault::Busy { word });
-                }
-            }
-            unlock_read(&hall, &mut reader, held);
-        }
-        Err(_) => assert!(rt; false),
+    let mut paused = first;
+    let mut other = hall.split(&mut paused, 1, 0);
+    let mut clock = ListClock::new(vec![in rt.alloc(); 2, 5, 9, 3, 8, 1]?);
+    let Ok(announced) = announce(&hall, &mut paused, 0) else {
+        rt.abort()
+    };
+    let fault = TryFault::Busy { word: Word(4) };
+    match try_rlock(&hall, &mut other, 0) {
+        Ok(_) => rt.abort(),
+        Err(found) => assert_eq!(rt; found, fault),
     }
+    no_try(&rt, &hall, &mut other, fault);
+    let (now, deadline) = (9, 7);
+    no_reader(
+        &rt,
+        &hall,
+        &mut other,
+        &mut clock,
+        Late {
+            now,
+            deadline,
+            fault,
+        },
+    );
+    let (now, deadline) = (8, 7);
+    no_writer(
+        &rt,
+        &hall,
+        &mut other,
+        &mut clock,
+        Late {
+            now,
+            deadline,
+            fault,
+        },
+    );
+    assert_eq!(rt; clock.now(), 1);
+
+    retract(&hall, &mut paused, announced);
+    match rlock_until(&rt, &hall, &mut other, 0, &mut clock, 0) {
+        Ok(ptr) => unlock_read(&hall, &mut other, ptr),
+        Err(_) => rt.abort(),
+    }
+    match try_rlock(&hall, &mut other, 0) {
+        Ok(ptr) => unlock_read(&hall, &mut other, ptr),
+        Err(_) => rt.abort(),
+    }
+    Ok(())
 }
 
-// Loads the word of the cell while it is held.
-struct LoadWord;
-
-impl ReadWork<NoCargo> for LoadWord {
-    type Answer = Word;
-
-    ghost ready = { λ _ _ _. Unit {0} };
-
-    ghost does = { λ _ _ _ _ _. Unit {0} };
-
-    fn read(self, hall: &Hall<NoCargo>, pass: &mut Pass<NoCargo>, ptr: &ReadPtr) -> Word {
-        let LoadWord = self;
-        hall.load(pass, ptr.cell())
-    }
-}
-
-impl WriteWork<NoCargo> for LoadWord {
-    type Answer = Word;
-
-    ghost ready = { λ _ _ _. Unit {0} };
-
-    ghost does = { λ _ _ _ _ _. Unit {0} };
-
-    fn write(self, hall: &Hall<NoCargo>, pass: &mut Pass<NoCargo>, ptr: &WritePtr) -> Word {
-        let LoadWord = self;
-        hall.load(pass, ptr.cell())
-    }
-}
-
-// The work sees the cell held, and afterwards the cell is free.
+// Under read priority readers pass the announced writer, and another writer doesn't. After it took the announcement
+// back, a writer gets in.
 #[test]
-fn work_while_a_cell_is_held(rt: HostRuntime) {
-    let made = Hall::make(rt.alloc(), 1, 32, Policy::WritePriority, 1, 0, NoCargo);
+fn a_paused_writer_under_read_priority(rt: HostRuntime) -> Result<(), AllocError> {
+    let cargo = MapCargo {
+        cells: 1,
+        rows: 1,
+        writes: 1,
+    };
+    let made = Hall::make(rt.alloc(), 1, 32, Policy::ReadPriority, 3, 0, cargo);
+    let Ok((hall, first)) = made else { rt.abort() };
+    let mut writer = first;
+    let mut paused = hall.split(&mut writer, 1, 0);
+    let mut other = hall.split(&mut writer, 1, 0);
+    let mut clock = ListClock::new(vec![in rt.alloc(); 1, 2]?);
+    let Ok(announced) = announce(&hall, &mut paused, 0) else {
+        rt.abort()
+    };
+    match try_rlock(&hall, &mut other, 0) {
+        Ok(ptr) => unlock_read(&hall, &mut other, ptr),
+        Err(_) => rt.abort(),
+    }
+    no_try(&rt, &hall, &mut other, TryFault::Busy { word: Word(4) });
+    retract(&hall, &mut paused, announced);
+    let ptr = hold_at_once(&rt, &hall, &mut writer, &mut clock);
+    give_back(&hall, &mut writer, ptr);
+    assert_eq!(rt; clock.now(), 1, "the clock was asked");
+    Ok(())
+}
+
+// The word of a cell that is held for reading.
+fn look_as_reader(hall: &Hall<MapCargo>, pass: &mut Pass<MapCargo>, ptr: &ReadPtr) -> Word
+    requires pass { IsPassOf hall.now pass.old }
+    requires cell { ptr.now.guard.lock < (shape_of hall.now).locks }
+    ensures pass { IsPassOf hall.now pass.new }
+    ensures modes { KeepsModes (view pass.old) (view pass.new) }
+    ensures stands { standing (view pass.new) ptr.now.guard.lock ≡ standing (view pass.old) ptr.now.guard.lock }
+{
+    hall.load(pass, ptr.cell())
+}
+
+// The word of a cell that is held for writing.
+fn look_as_writer(hall: &Hall<MapCargo>, pass: &mut Pass<MapCargo>, ptr: &WritePtr) -> Word
+    requires pass { IsPassOf hall.now pass.old }
+    requires cell { ptr.now.guard.lock < (shape_of hall.now).locks }
+    ensures pass { IsPassOf hall.now pass.new }
+    ensures modes { KeepsModes (view pass.old) (view pass.new) }
+    ensures stands { standing (view pass.new) ptr.now.guard.lock ≡ standing (view pass.old) ptr.now.guard.lock }
+    ensures part { (view pass.new).part ≡ (view pass.old).part }
+{
+    hall.load(pass, ptr.cell())
+}
+
+// What is done sees the cell held, and afterwards the cell is free.
+#[test]
+fn something_is_done_while_a_cell_is_held(rt: HostRuntime) {
+    let cargo = MapCargo {
+        cells: 1,
+        rows: 1,
+        writes: 1,
+    };
+    let made = Hall::make(rt.alloc(), 1, 32, Policy::WritePriority, 1, 0, cargo);
     let Ok((hall, first)) = made else { rt.abort() };
     let mut pass = first;
-    assert_eq!(rt; with_rlock(&rt, &hall, &mut pass, 0, LoadWord), Word(ONE));
-    assert_eq!(rt; with_wlock(&rt, &hall, &mut pass, 0, LoadWord), Word(8));
+    assert_eq!(rt;
+        with_rlock(&rt, &hall, &mut pass, 0, look_as_reader),
+        Word(ONE)
+    );
+    assert_eq!(rt;
+        with_wlock(&rt, &hall, &mut pass, 0, look_as_writer),
+        Word(8)
+    );
     assert_eq!(rt; hall.load(&mut pass, 0), Word(0));
 }
 
 // Holds cell 0 for writing again and again.
-fn write_often<R: Wait>(rt: &R, hall: &Hall<NoCargo>, pass: &mut Pass<NoCargo>, times: u32)
+fn write_often<R: Wait>(rt: &R, hall: &Hall<MapCargo>, pass: &mut Pass<MapCargo>, times: u32)
     requires pass { IsPassOf hall.now pass.old × (0 < (shape_of hall.now).locks) }
-    requires away { standing (view pass.old) 0 ≡ Away }
-    ensures pass { IsPassOf hall.now pass.new × (standing (view pass.new) 0 ≡ Away) }
+    requires idle { IsIdle (view pass.old) }
+    ensures pass { IsPassOf hall.now pass.new × IsIdle (view pass.new) }
 {
     for _ in 0..times {
-        let ptr = wlock(rt, hall, pass, 0);
-        unlock_write(hall, pass, ptr);
+        let ptr = hold(rt, hall, pass);
+        give_back(hall, pass, ptr);
     }
 }
 
 fn by_two_threads<R: Threads + Wait + Sync>(
     rt: &R,
-    hall: &Hall<NoCargo>,
-    mut left: Pass<NoCargo>,
-    mut right: Pass<NoCargo>,
-) -> (Pass<NoCargo>, Pass<NoCargo>)
-    requires left { IsPassOf hall.now left × (standing (view left) 0 ≡ Away) }
-    requires right { IsPassOf hall.now right × (standing (view right) 0 ≡ Away) }
+    hall: &Hall<MapCargo>,
+    mut left: Pass<MapCargo>,
+    mut right: Pass<MapCargo>,
+) -> (Pass<MapCargo>, Pass<MapCargo>)
+    requires left { IsPassOf hall.now left × IsIdle (view left) }
+    requires right { IsPassOf hall.now right × IsIdle (view right) }
     requires lock { 0 < (shape_of hall.now).locks }
-    ensures left { IsPassOf hall.now result.0 × (standing (view result.0) 0 ≡ Away) }
-    ensures right { IsPassOf hall.now result.1 × (standing (view result.1) 0 ≡ Away) }
+    ensures left { IsPassOf hall.now result.0 × IsIdle (view result.0) }
+    ensures right { IsPassOf hall.now result.1 × IsIdle (view result.1) }
 {
     thread::join(
         rt,
-        move || -> Pass<NoCargo>
-            requires { IsPassOf hall.now left × (standing (view left) 0 ≡ Away) × (0 < (shape_of hall.now).locks) }
-            ensures { IsPassOf hall.entry.now result × (standing (view result) 0 ≡ Away) }
+        move || -> Pass<MapCargo>
+            requires { IsPassOf hall.now left × IsIdle (view left) × (0 < (shape_of hall.now).locks) }
+            ensures { IsPassOf hall.entry.now result × IsIdle (view result) }
         {
             write_often(rt, hall, &mut left, 1000);
             left
         },
-        move || -> Pass<NoCargo>
-            requires { IsPassOf hall.now right × (standing (view right) 0 ≡ Away) × (0 < (shape_of hall.now).locks) }
-            ensures { IsPassOf hall.entry.now result × (standing (view result) 0 ≡ Away) }
+        move || -> Pass<MapCargo>
+            requires { IsPassOf hall.now right × IsIdle (view right) × (0 < (shape_of hall.now).locks) }
+            ensures { IsPassOf hall.entry.now result × IsIdle (view result) }
         {
             write_often(rt, hall, &mut right, 1000);
             right
@@ -272,7 +434,12 @@ fn by_two_threads<R: Threads + Wait + Sync>(
 // Two threads that wait for one cell end by themselves, and leave it free.
 #[test]
 fn two_writers(rt: HostRuntime) {
-    let made = Hall::make(rt.alloc(), 1, 4, Policy::WritePriority, 2, 0, NoCargo);
+    let cargo = MapCargo {
+        cells: 1,
+        rows: 1,
+        writes: 1,
+    };
+    let made = Hall::make(rt.alloc(), 1, 4, Policy::WritePriority, 2, 0, cargo);
     let Ok((hall, first)) = made else { rt.abort() };
     let mut first = first;
     let second = hall.split(&mut first, 1, 0);

@@ -5,25 +5,29 @@ ghost use Rattle.hall.specs.Plays.{GivesBack, Releases};
 ghost use Rattle.hall.specs.Views.{standing};
 ghost use Rattle.hall.specs.declared.view.Standing.TheVariants.{Away, Inline, Exclusive};
 ghost use Rattle.shared_mutex.specs.Acquiring.{ElsewhereSame, MadeAtMost, RefusesExclusive, RefusesShared, TakesExclusive, TakesShared};
+ghost use Rattle.query_rules.specs.Maps.{no_entries};
+ghost use Rattle.map_cargo.specs.History.{IsSettled};
+ghost use Rattle.sync_cell.specs.Cells.{maps};
 
 use crate::pointers::{ReadPtr, WritePtr};
-use hall::{Cargo, Hall, Pass, TryFault};
+use hall::{Hall, Pass, TryFault};
+use map_cargo::MapCargo;
 use shared_mutex::{try_lock, try_lock_shared, unlock, unlock_shared};
 
 /// Tries to hold the cell for reading, by one load and one exchange. The pass has to be away from the cell, and is away
 /// after a refusal.
 ///
 /// `Busy` comes exactly where the loaded word conflicts, `Raced` exactly where the exchange failed. At most 2 steps.
-pub fn try_rlock<C: Cargo>(
-    hall: &Hall<C>,
-    pass: &mut Pass<C>,
+pub fn try_rlock(
+    hall: &Hall<MapCargo>,
+    pass: &mut Pass<MapCargo>,
     cell: u64,
 ) -> Result<ReadPtr, TryFault>
     requires pass { IsPassOf hall.now pass.old }
     requires cell { cell < (shape_of hall.now).locks }
     requires away { standing (view pass.old) cell ≡ Away }
     ensures pass { IsPassOf hall.now pass.new }
-    ensures step { MatchResult result (λ ptr. (ptr.guard.lock ≡ cell) × TakesShared C.CargoRule (view pass.old) cell (view pass.new)) (λ fault. RefusesShared C.CargoRule (view pass.old) cell (view pass.new) fault) }
+    ensures step { MatchResult result (λ ptr. (ptr.guard.lock ≡ cell) × TakesShared maps (view pass.old) cell (view pass.new)) (λ fault. RefusesShared maps (view pass.old) cell (view pass.new) fault) }
     ensures stands { MatchResult result (λ _. standing (view pass.new) cell ≡ Inline) (λ _. standing (view pass.new) cell ≡ Away) }
     ensures elsewhere { ElsewhereSame (view pass.old) (view pass.new) cell }
     ensures steps { MadeAtMost (view pass.old) (view pass.new) 2 }
@@ -37,16 +41,16 @@ pub fn try_rlock<C: Cargo>(
 /// Tries to hold the cell for writing: it announces a writer, and tries once to finish. Where readers are inside it
 /// takes the announcement back, and answers `Busy` with the word that counted them. The pass has to be away from the
 /// cell, and is away after a refusal. At most 4 steps.
-pub fn try_wlock<C: Cargo>(
-    hall: &Hall<C>,
-    pass: &mut Pass<C>,
+pub fn try_wlock(
+    hall: &Hall<MapCargo>,
+    pass: &mut Pass<MapCargo>,
     cell: u64,
 ) -> Result<WritePtr, TryFault>
     requires pass { IsPassOf hall.now pass.old }
     requires cell { cell < (shape_of hall.now).locks }
     requires away { standing (view pass.old) cell ≡ Away }
     ensures pass { IsPassOf hall.now pass.new }
-    ensures step { MatchResult result (λ ptr. (ptr.guard.lock ≡ cell) × TakesExclusive C.CargoRule (view pass.old) cell (view pass.new)) (λ fault. RefusesExclusive C.CargoRule (view pass.old) cell (view pass.new) fault) }
+    ensures step { MatchResult result (λ ptr. (ptr.guard.lock ≡ cell) × TakesExclusive maps (view pass.old) cell (view pass.new)) (λ fault. RefusesExclusive maps (view pass.old) cell (view pass.new) fault) }
     ensures stands { MatchResult result (λ _. standing (view pass.new) cell ≡ Exclusive) (λ _. standing (view pass.new) cell ≡ Away) }
     ensures elsewhere { ElsewhereSame (view pass.old) (view pass.new) cell }
     ensures steps { MadeAtMost (view pass.old) (view pass.new) 4 }
@@ -58,12 +62,12 @@ pub fn try_wlock<C: Cargo>(
 }
 
 /// Gives a cell back that was held for reading, by one step.
-pub fn unlock_read<C: Cargo>(hall: &Hall<C>, pass: &mut Pass<C>, ptr: ReadPtr)
+pub fn unlock_read(hall: &Hall<MapCargo>, pass: &mut Pass<MapCargo>, ptr: ReadPtr)
     requires pass { IsPassOf hall.now pass.old }
     requires cell { ptr.guard.lock < (shape_of hall.now).locks }
     requires inline { standing (view pass.old) ptr.guard.lock ≡ Inline }
     ensures pass { IsPassOf hall.now pass.new }
-    ensures step { (found : _) × GivesBack C.CargoRule (view pass.old) ptr.guard.lock found (view pass.new) }
+    ensures step { (found : _) × GivesBack maps (view pass.old) ptr.guard.lock found (view pass.new) }
     ensures away { standing (view pass.new) ptr.guard.lock ≡ Away }
     ensures elsewhere { ElsewhereSame (view pass.old) (view pass.new) ptr.guard.lock }
     ensures steps { MadeAtMost (view pass.old) (view pass.new) 1 }
@@ -72,15 +76,14 @@ pub fn unlock_read<C: Cargo>(hall: &Hall<C>, pass: &mut Pass<C>, ptr: ReadPtr)
     unlock_shared(hall, pass, guard);
 }
 
-/// Gives a cell back that was held for writing, by one step. The pass's part of the cargo has to be settled for the
-/// cell.
-pub fn unlock_write<C: Cargo>(hall: &Hall<C>, pass: &mut Pass<C>, ptr: WritePtr)
+/// Gives a cell back that was held for writing, by one step. The words of the cell have to mean its map.
+pub fn unlock_write(hall: &Hall<MapCargo>, pass: &mut Pass<MapCargo>, ptr: WritePtr)
     requires pass { IsPassOf hall.now pass.old }
     requires cell { ptr.guard.lock < (shape_of hall.now).locks }
     requires exclusive { standing (view pass.old) ptr.guard.lock ≡ Exclusive }
-    requires settled { C.settled ptr.guard.lock (view pass.old).part }
+    requires settled { IsSettled no_entries ptr.guard.lock (view pass.old).part }
     ensures pass { IsPassOf hall.now pass.new }
-    ensures step { Releases C.CargoRule (view pass.old) ptr.guard.lock 8 (view pass.new) }
+    ensures step { Releases maps (view pass.old) ptr.guard.lock 8 (view pass.new) }
     ensures away { standing (view pass.new) ptr.guard.lock ≡ Away }
     ensures elsewhere { ElsewhereSame (view pass.old) (view pass.new) ptr.guard.lock }
     ensures steps { MadeAtMost (view pass.old) (view pass.new) 1 }

@@ -1,117 +1,79 @@
-//! Work that is done while a cell is held.
-ghost use Rattle.std.specs.Prelude.{◌≡◌, ◌<◌, ℕ, List};
+//! Doing something while a cell is held.
+ghost use Rattle.std.specs.Prelude.{◌≡◌, ◌<◌, ℕ};
 ghost use Rattle.hall.specs.Passes.{view, IsPassOf, shape_of};
 ghost use Rattle.hall.specs.Plays.{GivesBack, Releases};
 ghost use Rattle.hall.specs.Views.{standing};
-ghost use Rattle.hall.specs.declared.guards.TryFault.{TryFault};
 ghost use Rattle.hall.specs.declared.view.Standing.TheVariants.{Away, Inline, Exclusive};
-ghost use Rattle.hall.specs.declared.view.View.{View};
-ghost use Rattle.sync_cell.specs.Tries.{EntersAtLast, WritesAtLast};
-ghost use Rattle.sync_cell.specs.Within.{KeepsModes, KeepsModesElsewhere};
+ghost use Rattle.query_rules.specs.Maps.{no_entries};
+ghost use Rattle.map_cargo.specs.History.{IsSettled};
+ghost use Rattle.sync_cell.specs.Cells.{maps};
+ghost use Rattle.sync_cell.specs.Within.{Answers, KeepsModesElsewhere, MayTake, StillHolds, TookToRead, TookToWrite, reads_at, writes_at};
 
 use crate::pointers::{ReadPtr, WritePtr};
 use crate::trying::{unlock_read, unlock_write};
 use crate::waiting::{rlock, wlock};
-use hall::{Cargo, Hall, Pass};
+use hall::{Hall, Pass};
+use map_cargo::MapCargo;
 use std::sync::Wait;
 
-/// What is done once while a cell is held for reading.
-pub trait ReadWork<C: Cargo> {
-    /// What it answers.
-    type Answer;
-
-    /// What it needs: of the work, the cell, and the pass's view.
-    ghost ready: { Self → ℕ → View C.Part → Type 0 };
-
-    /// What it does: of the work, the cell, the pass's view before, the answer, and the pass's view after.
-    ghost does: { Self → ℕ → View C.Part → Self.Answer → View C.Part → Type 0 };
-
-    /// Does the work. The pass holds the same modes before and after it, and stands at the cell as before.
-    fn read(self, hall: &Hall<C>, pass: &mut Pass<C>, ptr: &ReadPtr) -> Self::Answer
-        requires pass { IsPassOf hall.now pass.old }
-        requires cell { ptr.now.guard.lock < (shape_of hall.now).locks }
-        requires held { standing (view pass.old) ptr.now.guard.lock ≡ Inline }
-        requires ready { ready self ptr.now.guard.lock (view pass.old) }
-        ensures pass { IsPassOf hall.now pass.new }
-        ensures held { standing (view pass.new) ptr.now.guard.lock ≡ Inline }
-        ensures modes { KeepsModes (view pass.old) (view pass.new) }
-        ensures does { does self ptr.now.guard.lock (view pass.old) result (view pass.new) };
-}
-
-/// What is done once while a cell is held for writing. It leaves the pass's part of the cargo settled for the cell.
-pub trait WriteWork<C: Cargo> {
-    /// What it answers.
-    type Answer;
-
-    /// What it needs: of the work, the cell, and the pass's view.
-    ghost ready: { Self → ℕ → View C.Part → Type 0 };
-
-    /// What it does: of the work, the cell, the pass's view before, the answer, and the pass's view after.
-    ghost does: { Self → ℕ → View C.Part → Self.Answer → View C.Part → Type 0 };
-
-    /// Does the work. The pass holds the same modes before and after it, and stands at the cell as before.
-    fn write(self, hall: &Hall<C>, pass: &mut Pass<C>, ptr: &WritePtr) -> Self::Answer
-        requires pass { IsPassOf hall.now pass.old }
-        requires cell { ptr.now.guard.lock < (shape_of hall.now).locks }
-        requires held { standing (view pass.old) ptr.now.guard.lock ≡ Exclusive }
-        requires ready { ready self ptr.now.guard.lock (view pass.old) }
-        ensures pass { IsPassOf hall.now pass.new }
-        ensures held { standing (view pass.new) ptr.now.guard.lock ≡ Exclusive }
-        ensures modes { KeepsModes (view pass.old) (view pass.new) }
-        ensures settled { C.settled ptr.now.guard.lock (view pass.new).part }
-        ensures does { does self ptr.now.guard.lock (view pass.old) result (view pass.new) };
-}
-
-/// Waits until the cell can be read, does the work once while it is held for reading, gives the cell back, and answers
-/// what the work answered. The pass has to be away from the cell. Its contract holds if it returns.
-pub fn with_rlock<R: Wait, C: Cargo, W: ReadWork<C>>(
-    rt: &R,
-    hall: &Hall<C>,
-    pass: &mut Pass<C>,
+/// Waits until the cell can be read, calls `f` once while it is held for reading, gives the cell back, and answers what
+/// `f` answered. The pass has to be away from the cell.
+///
+/// `f` must stand being called with any pass that has just taken the cell, and must leave its modes and its standing
+/// at the cell as they are. The contract holds if the call returns.
+pub fn with_rlock<W: Wait, R, F: FnOnce(&Hall<MapCargo>, &mut Pass<MapCargo>, &ReadPtr) -> R>(
+    rt: &W,
+    hall: &Hall<MapCargo>,
+    pass: &mut Pass<MapCargo>,
     cell: u64,
-    work: W,
-) -> W::Answer
+    f: F,
+) -> R
     requires pass { IsPassOf hall.now pass.old }
     requires cell { cell < (shape_of hall.now).locks }
     requires away { standing (view pass.old) cell ≡ Away }
-    requires ready { (held : View C.Part) (faults : List TryFault) → EntersAtLast C.CargoRule (view pass.old) cell faults held → W.ready work cell held }
+    requires ready { (held : _) → TookToRead hall.now (view pass.old) cell held → MayTake F.FnOnce f hall.now held (reads_at cell) }
+    requires leaves { (held answer after : _) → TookToRead hall.now (view pass.old) cell held → Answers F.FnOnce f hall.now held (reads_at cell) answer after → StillHolds hall.now cell Inline held after }
     ensures pass { IsPassOf hall.now pass.new }
     ensures away { standing (view pass.new) cell ≡ Away }
     ensures elsewhere { KeepsModesElsewhere (view pass.old) (view pass.new) cell }
-    ensures step { (faults : List TryFault) × (held : View C.Part) × (done : View C.Part) × (found : ℕ)
-        × EntersAtLast C.CargoRule (view pass.old) cell faults held
-        × W.does work cell held result done
-        × GivesBack C.CargoRule done cell found (view pass.new) }
+    ensures step { (held : _) × (after : _) × (found : ℕ)
+        × TookToRead hall.now (view pass.old) cell held
+        × Answers F.FnOnce f hall.now held (reads_at cell) result after
+        × GivesBack maps (view after) cell found (view pass.new) }
 {
     let ptr = rlock(rt, hall, pass, cell);
-    let answer = work.read(hall, pass, &ptr);
+    let answer = f(hall, pass, &ptr);
     unlock_read(hall, pass, ptr);
     answer
 }
 
-/// Waits until the cell can be written, does the work once while it is held for writing, gives the cell back, and
-/// answers what the work answered. The pass has to be away from the cell. Its contract holds if it returns.
-pub fn with_wlock<R: Wait, C: Cargo, W: WriteWork<C>>(
-    rt: &R,
-    hall: &Hall<C>,
-    pass: &mut Pass<C>,
+/// Waits until the cell can be written, calls `f` once while it is held for writing, gives the cell back, and answers
+/// what `f` answered. The pass has to be away from the cell.
+///
+/// `f` must stand being called with any pass that has just taken the cell, must leave its modes and its standing at the
+/// cell as they are, and must leave words in the cell that mean its map. The contract holds if the call returns.
+pub fn with_wlock<W: Wait, R, F: FnOnce(&Hall<MapCargo>, &mut Pass<MapCargo>, &WritePtr) -> R>(
+    rt: &W,
+    hall: &Hall<MapCargo>,
+    pass: &mut Pass<MapCargo>,
     cell: u64,
-    work: W,
-) -> W::Answer
+    f: F,
+) -> R
     requires pass { IsPassOf hall.now pass.old }
     requires cell { cell < (shape_of hall.now).locks }
     requires away { standing (view pass.old) cell ≡ Away }
-    requires ready { (held : View C.Part) (faults misses : List TryFault) → WritesAtLast C.CargoRule (view pass.old) cell faults misses held → W.ready work cell held }
+    requires ready { (held : _) → TookToWrite hall.now (view pass.old) cell held → MayTake F.FnOnce f hall.now held (writes_at cell) }
+    requires leaves { (held answer after : _) → TookToWrite hall.now (view pass.old) cell held → Answers F.FnOnce f hall.now held (writes_at cell) answer after → StillHolds hall.now cell Exclusive held after × IsSettled no_entries cell (view after).part }
     ensures pass { IsPassOf hall.now pass.new }
     ensures away { standing (view pass.new) cell ≡ Away }
     ensures elsewhere { KeepsModesElsewhere (view pass.old) (view pass.new) cell }
-    ensures step { (faults : List TryFault) × (misses : List TryFault) × (held : View C.Part) × (done : View C.Part)
-        × WritesAtLast C.CargoRule (view pass.old) cell faults misses held
-        × W.does work cell held result done
-        × Releases C.CargoRule done cell 8 (view pass.new) }
+    ensures step { (held : _) × (after : _)
+        × TookToWrite hall.now (view pass.old) cell held
+        × Answers F.FnOnce f hall.now held (writes_at cell) result after
+        × Releases maps (view after) cell 8 (view pass.new) }
 {
     let ptr = wlock(rt, hall, pass, cell);
-    let answer = work.write(hall, pass, &ptr);
+    let answer = f(hall, pass, &ptr);
     unlock_write(hall, pass, ptr);
     answer
 }

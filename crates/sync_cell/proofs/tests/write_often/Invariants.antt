@@ -1,8 +1,6 @@
-use Rattle.std.proofs.Common.{◌≡◌}
 use Rattle.hall.specs.Passes.{view, IsPassOf}
-use Rattle.hall.specs.Views.{standing}
-use Rattle.hall.specs.declared.view.Standing.TheVariants.{Away}
+use Rattle.map_cargo.specs.Steps.{IsIdle}
 use Rattle.sync_cell.proofs.tests.write_often.Given as goal
 
 abbrev pub invariant-loop : goal.invariant-loop
-invariant-loop g l = IsPassOf l.hall l.pass × (standing (view l.pass) 0 ≡ Away)
+invariant-loop g l = IsPassOf l.hall l.pass × IsIdle (view l.pass)

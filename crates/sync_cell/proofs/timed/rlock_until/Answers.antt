@@ -1,55 +1,38 @@
-use Rattle.std.proofs.Common.{◌∷◌, refl, sym, ap, subst}
+use Rattle.std.proofs.Common.{◌≡◌, ◌+◌, ◌∷◌, List, length, refl, ap, arith, rules}
+use Rattle.hall.specs.declared.guards.TryFault.{TryFault}
 use Rattle.hall.specs.Passes.{view}
 use Rattle.hall.specs.Views.{mode_of}
-use Rattle.shared_mutex.specs.Acquiring.{RefusesShared}
+use Rattle.sync_cell.specs.AttemptLaws.{still_elsewhere}
+use Rattle.sync_cell.specs.Cells.{maps}
+use Rattle.sync_cell.specs.Tries.{EntersAtLast, OnlyLooked, ReadersRefused}
 use Rattle.sync_cell.specs.TryLaws.{readers_looked}
-use Rattle.sync_cell.proofs.Acquired.{patient_looks, patient_reader, still_elsewhere}
-use Rattle.sync_cell.proofs.InTime.{none_yet, one_more, was_in_time, was_too_late}
+use Rattle.sync_cell.specs.Waits.{AskedInTime, AskedTooLate}
+use Rattle.sync_cell.proofs.Acquired.{patient_looks, patient_reader}
+use Rattle.sync_cell.proofs.Counted.{entered_counted, in_time, loads, readers_counted, too_late}
 use Rattle.sync_cell.proofs.timed.rlock_until.Goals as goal
 
-pub trying-init : goal.trying-init
-trying-init g c = record { next = tt; goes_on = tt; pass = c.requires.pass; away = c.requires.away; in_time = none_yet _ _ _ _ _ _ }
-
-pub trying-preserved : goal.trying-preserved
-trying-preserved g c = record {
-  next = tt;
-  goes_on = tt;
-  pass = c.try_lock_shared.ensures.pass;
-  away = c.in-Err.ensures.stands;
-  in_time = one_more _ _ _ _ (view c.args.pass.now) (view c.trying.pass) (view c.try_lock_shared.new.pass) c.args.clock.now c.trying.clock c.late_after.new.clock c.in-Err.fault c.trying.invariant.in_time c.in-Err.ensures.step c.late_after.ensures.answers
-      c.in-None-late_after.ensures.late;
-}
-
-pub returns-in-Ok-clause-elsewhere : goal.returns-in-Ok-clause-elsewhere
-returns-in-Ok-clause-elsewhere g c = let s = c.trying.invariant.in_time in
-    still_elsewhere (view c.args.pass.now) (view c.trying.pass) (view c.try_lock_shared.new.pass) c.args.cell (readers_looked g.C.CargoRule (view c.args.pass.now) c.args.cell (view c.trying.pass) s.faults s.refused) c.in-Ok.ensures.elsewhere
-
 pub returns-in-Ok-clause-step : goal.returns-in-Ok-clause-step
-returns-in-Ok-clause-step g c = let s = c.trying.invariant.in_time in (
-  s.faults,
-  (view c.trying.pass, s.refused, readers_looked g.C.CargoRule (view c.args.pass.now) c.args.cell (view c.trying.pass) s.faults s.refused, c.in-Ok.ensures.step.1),
-  was_in_time _ _ _ _ _ _ _ _ s,
-)
+returns-in-Ok-clause-step g c = let e = c.in-Ok.ensures in let v = view c.args.pass.now in let w = view c.wait_until.new.attempt.pass.now in let entered = e.gives.5.2 in
+    let step : (faults : List TryFault) × EntersAtLast maps v c.args.cell faults w × AskedInTime g.T.Clock.last g.T.Clock.answers c.args.deadline (length faults) c.args.clock.now c.wait_until.new.clock =
+    (entered.0, entered.1, in_time g.T.Clock.last g.T.Clock.answers c.args.deadline (length entered.0) (loads v) (loads w) c.args.clock.now c.wait_until.new.clock e.in_time e.at_once e.early (entered_counted maps c.args.cell v w entered.0 entered.1)) in
+    search rules
 
 pub returns-in-Ok-clause-steps : goal.returns-in-Ok-clause-steps
-returns-in-Ok-clause-steps g c = let s = c.trying.invariant.in_time in
-    patient_reader g.C.CargoRule (view c.args.pass.now) c.args.cell c.requires.away s.faults (view c.try_lock_shared.new.pass)
-    (view c.trying.pass, s.refused, readers_looked g.C.CargoRule (view c.args.pass.now) c.args.cell (view c.trying.pass) s.faults s.refused, c.in-Ok.ensures.step.1)
+returns-in-Ok-clause-steps g c = let entered = c.in-Ok.ensures.gives.5.2 in
+    let steps = patient_reader maps (view c.args.pass.now) c.args.cell c.requires.away entered.0 (view c.wait_until.new.attempt.pass.now) entered.1 in search rules
 
-pub returns-in-Some-late_after-clause-elsewhere :
-    goal.returns-in-Some-late_after-clause-elsewhere
-returns-in-Some-late_after-clause-elsewhere g c = let s = c.trying.invariant.in_time in let w = view c.try_lock_shared.new.pass in
-    still_elsewhere (view c.args.pass.now) w w c.args.cell (readers_looked g.C.CargoRule (view c.args.pass.now) c.args.cell w (c.in-Err.fault ∷ s.faults) (view c.trying.pass, s.refused, c.in-Err.ensures.step)) (λ k ne. refl)
+pub returns-in-Err-clause-elsewhere : goal.returns-in-Err-clause-elsewhere
+returns-in-Err-clause-elsewhere g c = let r = c.in-Err.ensures.refuses.3 in let v = view c.args.pass.now in let w = view c.wait_until.new.attempt.pass.now in
+    let same = still_elsewhere v w w c.args.cell (readers_looked maps v c.args.cell w (c.in-Err.late.fault ∷ r.0) r.1) (λ k ne. refl) in search rules
 
-pub returns-in-Some-late_after-clause-step : goal.returns-in-Some-late_after-clause-step
-returns-in-Some-late_after-clause-step g c = let s = c.trying.invariant.in_time in let w = view c.try_lock_shared.new.pass in let late = c.in-Some-late_after.ensures.late in (
-  s.faults,
-  (view c.trying.pass, s.refused, subst (λ f. RefusesShared g.C.CargoRule (view c.trying.pass) c.args.cell w f) (sym late.0) c.in-Err.ensures.step),
-  readers_looked g.C.CargoRule (view c.args.pass.now) c.args.cell w (c.in-Err.fault ∷ s.faults) (view c.trying.pass, s.refused, c.in-Err.ensures.step),
-  was_too_late _ _ _ _ _ _ _ _ _ c.in-Some-late_after.late.now s c.late_after.ensures.answers late.2 late.3,
-)
+pub returns-in-Err-clause-step : goal.returns-in-Err-clause-step
+returns-in-Err-clause-step g c = let e = c.in-Err.ensures in let r = e.refuses.3 in let late = c.in-Err.late in let v = view c.args.pass.now in let w = view c.wait_until.new.attempt.pass.now in
+    let fs : List TryFault = late.fault ∷ r.0 in
+    let counted : loads w ≡ loads v + (length r.0 + 1) = omega (arith, readers_counted maps c.args.cell v w fs r.1) in
+    let step : (faults : List TryFault) × ReadersRefused maps c.args.cell v (late.fault ∷ faults) w × OnlyLooked v c.args.cell w × AskedTooLate g.T.Clock.last g.T.Clock.answers c.args.deadline (length faults + 1) c.args.clock.now c.wait_until.new.clock late.now =
+    (r.0, r.1, readers_looked maps v c.args.cell w fs r.1, too_late g.T.Clock.last g.T.Clock.answers c.args.deadline (length r.0 + 1) (loads v) (loads w) c.args.clock.now c.wait_until.new.clock late.now e.too_late e.late e.now counted) in
+    search rules
 
-pub returns-in-Some-late_after-clause-steps :
-    goal.returns-in-Some-late_after-clause-steps
-returns-in-Some-late_after-clause-steps g c = let s = c.trying.invariant.in_time in let w = view c.try_lock_shared.new.pass in
-    patient_looks (view c.args.pass.now) w c.args.cell (ap mode_of c.requires.away) (readers_looked g.C.CargoRule (view c.args.pass.now) c.args.cell w (c.in-Err.fault ∷ s.faults) (view c.trying.pass, s.refused, c.in-Err.ensures.step))
+pub returns-in-Err-clause-steps : goal.returns-in-Err-clause-steps
+returns-in-Err-clause-steps g c = let r = c.in-Err.ensures.refuses.3 in let v = view c.args.pass.now in let w = view c.wait_until.new.attempt.pass.now in
+    let steps = patient_looks v w c.args.cell (ap mode_of c.requires.away) (readers_looked maps v c.args.cell w (c.in-Err.late.fault ∷ r.0) r.1) in search rules

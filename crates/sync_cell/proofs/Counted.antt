@@ -1,0 +1,69 @@
+-- How many tries there were, and what the clock was asked between them.
+use Rattle.std.proofs.Common.{◌≡◌, ℕ, ◌⊎◌, ◌+◌, ◌<◌, ◌≤◌, List, [], ◌∷◌, length, ap, arith}
+use Rattle.std.specs.declared.option.Option.{Option}
+use Rattle.hall.specs.declared.cargo.CargoRule.{Ghosts}
+use Rattle.hall.specs.declared.guards.TryFault.{TryFault}
+use Rattle.hall.specs.declared.guards.TryFault.TheVariants.{Busy, Raced}
+use Rattle.hall.specs.declared.view.View.{View}
+use Rattle.shared_mutex.specs.Acquiring.{RefusesAnnouncing, RefusesShared, TakesShared}
+use Rattle.timed_wait.specs.Waiting.{AsksBelow}
+use Rattle.sync_cell.specs.Attempts.{how_many, is_hold, is_load}
+use Rattle.sync_cell.specs.AttemptLaws.{all_counted}
+use Rattle.sync_cell.specs.Tries.{AnnouncesAtLast, EntersAtLast, HoldsAtLast, MeetsReaders, ReadersMet, ReadersRefused, WritersRefused}
+use Rattle.sync_cell.specs.Waits.{AskedInTime, AskedTooLate}
+
+module _ {P : Type 0} where
+  abbrev pub loads : View P → ℕ
+  loads v = how_many is_load v.steps
+
+  abbrev pub holds : View P → ℕ
+  holds v = how_many is_hold v.steps
+
+module _ {C P : Type 0} (g : Ghosts C P) where
+  pub reader_counts : (lock : ℕ) (v w : View P) (f : TryFault) → RefusesShared g v lock w f → loads w ≡ loads v + 1
+  reader_counts lock v w (Busy word) r = let e : loads w ≡ 1 + loads v = ap loads r.1 in omega (arith, e)
+  reader_counts lock v w (Raced expected found) r = let e : loads w ≡ 0 + (1 + loads v) = ap loads r.1 in omega (arith, e)
+
+  pub entering_counts : (lock : ℕ) (v w : View P) → TakesShared g v lock w → loads w ≡ loads v + 1
+  entering_counts lock v w t = let e : loads w ≡ 0 + (1 + loads v) = ap loads t.2.0.3 in omega (arith, e)
+
+  writer_counts : (lock : ℕ) (v w : View P) (f : TryFault) → RefusesAnnouncing g v lock w f → loads w ≡ loads v + 1
+  writer_counts lock v w (Busy word) r = let e : loads w ≡ 1 + loads v = ap loads r.1 in omega (arith, e)
+  writer_counts lock v w (Raced expected found) r = let e : loads w ≡ 0 + (1 + loads v) = ap loads r.1 in omega (arith, e)
+
+  meeting_counts : (lock : ℕ) (v w : View P) (f : TryFault) → MeetsReaders g v lock w f → holds w ≡ holds v + 1
+  meeting_counts lock v w (Busy word) r = let e : holds w ≡ 1 + holds v = ap holds r.0.1.0 in omega (arith, e)
+  meeting_counts lock v w (Raced expected found) r = absurd r
+
+  -- so many tries were refused
+  pub readers_counted : (lock : ℕ) (v w : View P) (fs : List TryFault) → ReadersRefused g lock v fs w → loads w ≡ loads v + length fs
+  readers_counted lock v w fs r = all_counted (λ v w f. RefusesShared g v lock w f) loads (λ v w f. reader_counts lock v w f) v w fs r
+
+  pub writers_counted : (lock : ℕ) (v w : View P) (fs : List TryFault) → WritersRefused g lock v fs w → loads w ≡ loads v + length fs
+  writers_counted lock v w fs r = all_counted (λ v w f. RefusesAnnouncing g v lock w f) loads (λ v w f. writer_counts lock v w f) v w fs r
+
+  pub meetings_counted : (lock : ℕ) (v w : View P) (fs : List TryFault) → ReadersMet g lock v fs w → holds w ≡ holds v + length fs
+  meetings_counted lock v w fs r = all_counted (λ v w f. MeetsReaders g v lock w f) holds (λ v w f. meeting_counts lock v w f) v w fs r
+
+  -- and then one succeeded
+  pub entered_counted : (lock : ℕ) (v w : View P) (fs : List TryFault) → EntersAtLast g v lock fs w → loads w ≡ loads v + (length fs + 1)
+  entered_counted lock v w fs e = omega (arith, readers_counted lock v e.0 fs e.1, entering_counts lock e.0 w e.3)
+
+  pub announced_counted : (lock : ℕ) (v w : View P) (fs : List TryFault) → AnnouncesAtLast g v lock fs w → loads w ≡ loads v + (length fs + 1)
+  announced_counted lock v w fs e = let last : loads w ≡ 0 + (1 + loads e.0) = ap loads e.3.2.0 in omega (arith, writers_counted lock v e.0 fs e.1, last)
+
+  pub finished_counted : (lock : ℕ) (v w : View P) (fs : List TryFault) → HoldsAtLast g v lock fs w → holds w ≡ holds v + (length fs + 1)
+  finished_counted lock v w fs e = let last : holds w ≡ 1 + holds e.0 = ap holds e.3.0.3 in omega (arith, meetings_counted lock v e.0 fs e.1, last)
+
+-- asks that are counted from 0
+asks_from_none : (deadline first last n : ℕ) (old new : Option (List ℕ)) (end : List ℕ) → AsksBelow deadline first last old new end → last ≡ first + n → AsksBelow deadline 0 n old new end
+asks_from_none deadline first last n old new end a counted = record { answers = a.answers; counted = omega (arith, a.counted, counted) }
+
+module _ {T : Type 0} (last : T → ℕ) (answers : T → Option (List ℕ)) (deadline n before after : ℕ) (old new : T) where
+  -- a wait that succeeded with its try number n + 1
+  pub in_time : AsksBelow deadline before after (answers old) (answers new) [] → (after ≡ before + 1 → new ≡ old) → (new ≡ old) ⊎ (last new < deadline) → after ≡ before + (n + 1) → AskedInTime last answers deadline n old new
+  in_time asks once early counted = record { asks = asks_from_none deadline before after (n + 1) (answers old) (answers new) [] asks counted; unasked = λ z. once (omega (arith, z, counted)); early = early }
+
+  -- a wait that was late after n tries
+  pub too_late : (now : ℕ) → AsksBelow deadline before after (answers old) (answers new) (now ∷ []) → deadline ≤ now → now ≡ last new → after ≡ before + n → AskedTooLate last answers deadline n old new now
+  too_late now asks late is counted = record { asks = asks_from_none deadline before after n (answers old) (answers new) (now ∷ []) asks counted; late = late; now_is = is }

@@ -1,0 +1,70 @@
+-- What is read of attempts off the steps of their pass, and what attempts leave that were made one after the other.
+use Rattle.std.specs.Prelude.{◌≡◌, ℕ, ◌+◌, Bool, true, false, List, [], ◌∷◌, Some, None, cond}
+use Rattle.std.specs.declared.option.Option.{Option}
+use Rattle.hall.specs.declared.cargo.CargoRule.{Ghosts}
+use Rattle.hall.specs.declared.guards.TryFault.{TryFault}
+use Rattle.hall.specs.declared.guards.TryFault.TheVariants.{Busy, Raced}
+use Rattle.hall.specs.declared.view.Kind.{Kind}
+use Rattle.hall.specs.declared.view.Kind.TheVariants as kinds
+use Rattle.hall.specs.declared.view.Standing.TheVariants.{Inline, Exclusive, Announcing}
+use Rattle.hall.specs.declared.view.StepEntry.{StepEntry}
+use Rattle.hall.specs.declared.view.View.{View}
+use Rattle.hall.specs.Views.{standing}
+use Rattle.shared_mutex.specs.Acquiring.{ElsewhereSame}
+use Rattle.sync_cell.specs.Tries.{AnnouncesAtLast, EntersAtLast, HoldsAtLast, ReadersMet, ReadersRefused, WritersRefused}
+
+-- a reader, and who announces a writer, loads once in each try; an announced writer makes one exchange to take the lock
+abbrev pub is_load : Kind → Bool
+is_load kinds.Load = true
+is_load kind = false
+
+abbrev pub is_hold : Kind → Bool
+is_hold kinds.Hold = true
+is_hold kind = false
+
+-- how many of the steps are of such a kind
+abbrev pub how_many : (Kind → Bool) → List StepEntry → ℕ
+how_many is [] = 0
+how_many is (e ∷ es) = cond (is e.kind) 1 0 + how_many is es
+
+-- an exchange that failed found this word, and the step before it another
+abbrev pub raced_to : ℕ → List StepEntry → Option TryFault
+raced_to found [] = None
+raced_to found (e ∷ es) = Some (Raced e.word found)
+
+-- what a step of this kind, won or not, that found this word was refused with, where these steps came before it
+abbrev pub refusal : Kind → Bool → ℕ → List StepEntry → Option TryFault
+refusal kind true word es = None
+refusal kinds.Enter false word es = raced_to word es
+refusal kinds.Announce false word es = raced_to word es
+refusal kind false word es = Some (Busy word)
+
+-- what the newest step was refused with
+abbrev pub last_fault : List StepEntry → Option TryFault
+last_fault [] = None
+last_fault (e ∷ es) = refusal e.kind e.won e.word es
+
+module _ {C P : Type 0} (g : Ghosts C P) where
+  -- tries to enter were all refused, the last of them with this fault
+  abbrev pub StillOutside : View P → ℕ → TryFault → View P → Type 0
+  StillOutside v lock fault w = (faults : List TryFault) × ReadersRefused g lock v (fault ∷ faults) w
+
+  -- and then one entered
+  abbrev pub HasEntered : View P → ℕ → View P → Type 0
+  HasEntered v lock w = (standing w lock ≡ Inline) × ElsewhereSame v w lock × ((faults : List TryFault) × EntersAtLast g v lock faults w)
+
+  -- tries to announce a writer were all refused
+  abbrev pub StillUnannounced : View P → ℕ → TryFault → View P → Type 0
+  StillUnannounced v lock fault w = (faults : List TryFault) × WritersRefused g lock v (fault ∷ faults) w
+
+  -- and then one announced it
+  abbrev pub HasAnnounced : View P → ℕ → View P → Type 0
+  HasAnnounced v lock w = (standing w lock ≡ Announcing v.shape.slots 0 false) × ElsewhereSame v w lock × ((faults : List TryFault) × AnnouncesAtLast g v lock faults w)
+
+  -- tries of an announced writer to take the lock were all refused
+  abbrev pub StillAnnounced : View P → ℕ → TryFault → View P → Type 0
+  StillAnnounced v lock fault w = (misses : List TryFault) × ReadersMet g lock v (fault ∷ misses) w
+
+  -- and then one took it
+  abbrev pub HasFinished : View P → ℕ → View P → Type 0
+  HasFinished v lock w = (standing w lock ≡ Exclusive) × ElsewhereSame v w lock × ((misses : List TryFault) × HoldsAtLast g v lock misses w)
