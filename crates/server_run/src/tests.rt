@@ -4,11 +4,12 @@ ghost use Rattle.query_rules.specs.Grammar.{TakesBelow};
 ghost use Rattle.query_log.specs.Plain.{cell_count};
 
 use crate::{Options, Policy, RunMode, run_script, serve_main};
-use ql_base::{ListClocks, MemSink, MemSource, NoMemory, OpenGate};
+use ql_base::{Gate, ListClocks, MemSink, MemSource, NoMemory, OpenGate};
 use query_log::PlainMaps;
 use query_text::{Query, Reply, Said, parse_script};
 use std::alloc::{AllocError, Global};
 use std::sync::Wait;
+use std::sync::atomic::{AtomicU64, Ordering};
 use std::thread::Threads;
 
 const ROOM: usize = 4096;
@@ -111,6 +112,55 @@ fn wrong_words_write_nothing(rt: HostRuntime) -> Result<(), AllocError> {
     assert_eq!(rt; status, 2);
     assert!(rt; written.is_empty());
     Ok(())
+}
+
+// A gate that counts the queries, and holds none back.
+#[derive(Drop)]
+struct CountGate {
+    asked: AtomicU64,
+}
+
+impl Gate for CountGate {
+    fn before(&self, _caller: u64, _query: u64) {
+        self.asked.fetch_add(1, Ordering::SeqCst);
+    }
+
+    fn after(&self, _caller: u64, _query: u64) {}
+}
+
+// `cases/no-memory` runs this test with each of its allocations refused in turn. Those before the
+// call show nothing.
+#[test]
+fn no_query_is_asked_where_memory_is_refused(rt: HostRuntime) {
+    let alloc: Global = rt.alloc();
+    let script =
+        b"cells 2\ncaller\nput 0 1 5\nget 0 1\nlen 0\nadd 0 1 2\ncas 0 1 7 9\nputlen 0 2 4\nmove 0 1 1 3\nboth 0 1 1\ntryget 1 1\ntryput 1 1 8\ngetby 1 1 0\nputby 1 2 7 0\ndel 0 2\ngive 5 10\ntake 5 4\naudit\n";
+    let log =
+        b"querylog 1\ncells 2 rows 1024 callers 1\nmap 1 0 0 put 0 1 5 = new\nmap 2 0 1 get 0 1 = some 5\nmap 2 0 2 len 0 = 1\nmap 3 0 3 add 0 1 2 = now 7\nmap 5 0 4 cas 0 1 7 9 = yes\nmap 7 0 5 putlen 0 2 4 = new 2\nmap 9 0 6 move 0 1 1 3 = moved\nmap 10 0 7 both 0 1 1 = some 6 some 3\nmap 10 0 8 tryget 1 1 = some 3\nmap 11 0 9 tryput 1 1 8 = old 3\nmap 12 0 10 getby 1 1 0 = some 8\nmap 13 0 11 putby 1 2 7 0 = new\nmap 15 0 12 del 0 2 = old 4\njob 0 0 13 give 5 10 = now 10\njob 1 0 14 take 5 4 = now 6\njob 2 0 15 audit = sum 6\nqueries 16\nwrites 8\nreads 5\nrefused 0\njobs 3\nend\n";
+    let Ok(word) = String::from_str(alloc, "run") else {
+        return;
+    };
+    let (Ok(words), Ok(bytes)) = (vec![in alloc; word], script.to_vec(alloc)) else {
+        return;
+    };
+    let Ok(mut sink) = MemSink::with_room(alloc, ROOM, Vec::new(alloc)) else {
+        return;
+    };
+    let mut source = MemSource::new(bytes, Vec::new(alloc));
+    let clocks = ListClocks::new(&[0]);
+    let gate = CountGate {
+        asked: AtomicU64::new(0),
+    };
+    let status = serve_main(&rt, alloc, &words, &mut source, &mut sink, &clocks, &gate);
+    let asked = gate.asked.load(Ordering::SeqCst);
+    if status == 6 {
+        assert_eq!(rt; asked, 0);
+        assert!(rt; sink.written().is_empty());
+    } else {
+        assert_eq!(rt; status, 0);
+        assert_eq!(rt; asked, 16);
+        assert_eq!(rt; sink.written(), log.as_slice());
+    }
 }
 
 // What plain maps say to the queries that ask maps.
