@@ -25,7 +25,7 @@ module _ {P : Type 0} where
   ReadAsWriter v lock (Raced expected found) = ReadTwoWords v.shape v.number v.steps lock
 
   -- a load, and then an exchange that found another word
-  two_words : (v w : View P) (lock : ℕ) (kind : Kind) (expected found : ℕ) → (expected ≡ found → ⊥) → w ≡ after_look (after_look v kinds.Load lock expected) kind lock found → ReadTwoWords w.shape w.number w.steps lock
+  pub two_words : (v w : View P) (lock : ℕ) (kind : Kind) (expected found : ℕ) → (expected ≡ found → ⊥) → w ≡ after_look (after_look v kinds.Load lock expected) kind lock found → ReadTwoWords w.shape w.number w.steps lock
   two_words v w lock kind expected found differ is =
       let u : View P = after_look v kinds.Load lock expected in let p : ℕ = place_of v lock in
       let before : Option ℕ = last_read p v.number v.steps in
