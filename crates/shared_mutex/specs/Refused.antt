@@ -90,7 +90,7 @@ module _ {P : Type 0} where
         (joined w.shape w.number a.0 v.steps (subst (λ (n : ℕ). reads w.shape n a.0) (sym number) (subst (λ (s : Shape). reads s v.number a.0) (sym shape) a.2)))
 
   -- a load, and then an exchange that found another word
-  two_words : (v w : View P) (lock : ℕ) (kind : Kind) (expected found : ℕ) → (expected ≡ found → ⊥) → w ≡ after_look (after_look v kinds.Load lock expected) kind lock found → AddsReads (λ shape number steps. ReadTwoWords shape number steps lock) v w
+  pub two_words : (v w : View P) (lock : ℕ) (kind : Kind) (expected found : ℕ) → (expected ≡ found → ⊥) → w ≡ after_look (after_look v kinds.Load lock expected) kind lock found → AddsReads (λ shape number steps. ReadTwoWords shape number steps lock) v w
   two_words v w lock kind expected found differ is =
       let load : StepEntry = entry_of v kinds.Load lock expected false in let exchange : StepEntry = entry_of (after_look v kinds.Load lock expected) kind lock found false in
       let p : ℕ = place_of v lock in let before : Option ℕ = last_read p v.number [] in

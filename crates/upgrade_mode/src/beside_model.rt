@@ -1,0 +1,339 @@
+//! The lock and the plain model side by side, with all nine acts of the model: each sequence of three events of three
+//! seats, under both policies. After each event the seat's role, and the lock's word, are those of the model.
+ghost use Rattle.std.specs.Prelude.{◌≡◌, ◌<◌, true, false};
+ghost use Rattle.hall.specs.Passes.{view, IsPassOf, shape_of};
+ghost use Rattle.hall.specs.Views.{standing};
+ghost use Rattle.hall.specs.declared.view.Standing.TheVariants.{Away};
+ghost use Rattle.lock_model.specs.Locks.{upgrade_role, exclusive_role};
+ghost use Rattle.lock_model.specs.declared.model.Role.TheVariants.{Outside, Announces};
+ghost use Rattle.shared_mutex.specs.Beside.{HasRole};
+
+use crate::{
+    BeginRaced, begin_upgrade, exclusive_to_shared, exclusive_to_upgrade, retract_upgrade,
+    try_finish_upgrade, try_lock_upgrade, unlock_upgrade, upgrade_to_shared,
+};
+use hall::{
+    Announced, ExclusiveGuard, Hall, Mode, NoCargo, Pass, Policy, SharedGuard, UpgradeGuard, Word,
+};
+use lock_model::{Act, Event, ModelLock, Role};
+use shared_mutex::{announce, retract, try_finish, try_lock_shared, unlock, unlock_shared};
+use std::process::Abort;
+
+const SEATS: u32 = 3;
+
+const ACTS: u32 = 9;
+
+const STEPS: u32 = 3;
+// (SEATS * ACTS) ^ STEPS
+const SEQUENCES: u32 = 19_683;
+
+fn act_of(number: u32) -> Act {
+    match number % ACTS {
+        0 => Act::EnterShared,
+        1 => Act::EnterUpgrade,
+        2 => Act::Announce,
+        3 => Act::TakeExclusive,
+        4 => Act::Retract,
+        5 => Act::Leave,
+        6 => Act::UpgradeToShared,
+        7 => Act::ExclusiveToShared,
+        _ => Act::ExclusiveToUpgrade,
+    }
+}
+
+fn announced(from_upgrade: bool) -> Announced
+    ensures { result ≡ record { lock = 0; swept = true; from_upgrade = from_upgrade } }
+{
+    Announced {
+        lock: 0,
+        swept: true,
+        from_upgrade,
+    }
+}
+
+// The seat's role says what an `Announced` says.
+fn let_go(announced: Announced) {
+    let Announced {
+        lock: _,
+        swept: _,
+        from_upgrade: _,
+    } = announced;
+}
+
+// The call of a seat that is outside.
+fn from_outside(hall: &Hall<NoCargo>, pass: &mut Pass<NoCargo>, act: Act) -> Role
+    requires role { HasRole hall.now pass.old Outside }
+    requires lock { 0 < (shape_of hall.now).locks }
+    ensures { HasRole hall.now pass.new result }
+{
+    match act {
+        Act::EnterShared => match try_lock_shared(hall, pass, 0) {
+            Ok(SharedGuard { lock: _ }) => Role::Holds(Mode::Shared),
+            Err(_) => Role::Outside,
+        },
+        Act::EnterUpgrade => match try_lock_upgrade(hall, pass, 0) {
+            Ok(UpgradeGuard { lock: _ }) => Role::Holds(Mode::Upgrade),
+            Err(_) => Role::Outside,
+        },
+        Act::Announce => match announce(hall, pass, 0) {
+            Ok(announced) => {
+                let_go(announced);
+                Role::Announces {
+                    from_upgrade: false,
+                }
+            }
+            Err(_) => Role::Outside,
+        },
+        _ => Role::Outside,
+    }
+}
+
+// The call of an upgrade holder.
+fn from_upgrade(hall: &Hall<NoCargo>, pass: &mut Pass<NoCargo>, act: Act) -> Role
+    requires role { HasRole hall.now pass.old upgrade_role }
+    requires lock { 0 < (shape_of hall.now).locks }
+    ensures { HasRole hall.now pass.new result }
+{
+    match act {
+        Act::Announce => match begin_upgrade(hall, pass, UpgradeGuard { lock: 0 }) {
+            Ok(announced) => {
+                let_go(announced);
+                Role::Announces { from_upgrade: true }
+            }
+            Err(
+                BeginRaced {
+                    guard: UpgradeGuard { lock: _ },
+                    expected: _,
+                    found: _,
+                },
+            ) => Role::Holds(Mode::Upgrade),
+        },
+        Act::Leave => {
+            unlock_upgrade(hall, pass, UpgradeGuard { lock: 0 });
+            Role::Outside
+        }
+        Act::UpgradeToShared => {
+            let SharedGuard { lock: _ } = upgrade_to_shared(hall, pass, UpgradeGuard { lock: 0 });
+            Role::Holds(Mode::Shared)
+        }
+        _ => Role::Holds(Mode::Upgrade),
+    }
+}
+
+// The call of an exclusive holder.
+fn from_exclusive(hall: &Hall<NoCargo>, pass: &mut Pass<NoCargo>, act: Act) -> Role
+    requires role { HasRole hall.now pass.old exclusive_role }
+    requires lock { 0 < (shape_of hall.now).locks }
+    ensures { HasRole hall.now pass.new result }
+{
+    match act {
+        Act::Leave => {
+            unlock(hall, pass, ExclusiveGuard { lock: 0 });
+            Role::Outside
+        }
+        Act::ExclusiveToShared => {
+            let SharedGuard { lock: _ } = exclusive_to_shared(
+                hall,
+                pass,
+                ExclusiveGuard { lock: 0 },
+            );
+            Role::Holds(Mode::Shared)
+        }
+        Act::ExclusiveToUpgrade => {
+            let UpgradeGuard { lock: _ } = exclusive_to_upgrade(
+                hall,
+                pass,
+                ExclusiveGuard { lock: 0 },
+            );
+            Role::Holds(Mode::Upgrade)
+        }
+        _ => Role::Holds(Mode::Exclusive),
+    }
+}
+
+// The call of a writer that was announced from outside.
+fn from_announced(hall: &Hall<NoCargo>, pass: &mut Pass<NoCargo>, act: Act) -> Role
+    requires role { HasRole hall.now pass.old (Announces false) }
+    requires lock { 0 < (shape_of hall.now).locks }
+    ensures { HasRole hall.now pass.new result }
+{
+    match act {
+        Act::TakeExclusive => match try_finish(hall, pass, announced(false)) {
+            Ok(ExclusiveGuard { lock: _ }) => Role::Holds(Mode::Exclusive),
+            Err((announced, _)) => {
+                let_go(announced);
+                Role::Announces {
+                    from_upgrade: false,
+                }
+            }
+        },
+        Act::Retract => {
+            retract(hall, pass, announced(false));
+            Role::Outside
+        }
+        _ => Role::Announces {
+            from_upgrade: false,
+        },
+    }
+}
+
+// The call of a writer that was announced from upgrade.
+fn from_raised(hall: &Hall<NoCargo>, pass: &mut Pass<NoCargo>, act: Act) -> Role
+    requires role { HasRole hall.now pass.old (Announces true) }
+    requires lock { 0 < (shape_of hall.now).locks }
+    ensures { HasRole hall.now pass.new result }
+{
+    match act {
+        Act::TakeExclusive => match try_finish_upgrade(hall, pass, announced(true)) {
+            Ok(ExclusiveGuard { lock: _ }) => Role::Holds(Mode::Exclusive),
+            Err((announced, _)) => {
+                let_go(announced);
+                Role::Announces { from_upgrade: true }
+            }
+        },
+        Act::Retract => {
+            let UpgradeGuard { lock: _ } = retract_upgrade(hall, pass, announced(true));
+            Role::Holds(Mode::Upgrade)
+        }
+        _ => Role::Announces { from_upgrade: true },
+    }
+}
+
+// Makes the seat's call for an act, where its role has one, and answers the role afterwards.
+fn call(hall: &Hall<NoCargo>, pass: &mut Pass<NoCargo>, role: Role, act: Act) -> Role
+    requires role { HasRole hall.now pass.old role }
+    requires lock { 0 < (shape_of hall.now).locks }
+    ensures { HasRole hall.now pass.new result }
+{
+    match role {
+        Role::Outside => from_outside(hall, pass, act),
+        Role::Holds(Mode::Shared) => {
+            if act == Act::Leave {
+                unlock_shared(hall, pass, SharedGuard { lock: 0 });
+                Role::Outside
+            } else {
+                role
+            }
+        }
+        Role::Holds(Mode::Upgrade) => from_upgrade(hall, pass, act),
+        Role::Holds(Mode::Exclusive) => from_exclusive(hall, pass, act),
+        Role::Announces {
+            from_upgrade: false,
+        } => from_announced(hall, pass, act),
+        Role::Announces { from_upgrade: true } => from_raised(hall, pass, act),
+    }
+}
+
+// The word has the bits and the count of the roles in the model.
+fn shows<A: Abort>(rt: &A, word: Word, model: &ModelLock) {
+    let roles = [model.role(0), model.role(1), model.role(2)];
+    let plain = Role::Announces {
+        from_upgrade: false,
+    };
+    let raised = Role::Announces { from_upgrade: true };
+    let upgraded = roles.contains(&Role::Holds(Mode::Upgrade)) || roles.contains(&raised);
+    let readers = roles
+        .iter()
+        .filter(|role| **role == Role::Holds(Mode::Shared))
+        .count();
+    assert_eq!(rt; word.held(), roles.contains(&Role::Holds(Mode::Exclusive)));
+    assert_eq!(rt;
+        word.begun(),
+        roles.contains(&plain) || roles.contains(&raised)
+    );
+    assert_eq!(rt; word.upgrade(), upgraded);
+    assert_eq!(rt; usize::try_from(word.count()).ok(), Some(readers));
+}
+
+// One event, made with the lock and with the model.
+fn event<A: Abort>(
+    rt: &A,
+    hall: &Hall<NoCargo>,
+    pass: &mut Pass<NoCargo>,
+    model: &mut ModelLock,
+    role: Role,
+    act: Act,
+) -> Role
+    requires role { HasRole hall.now pass.old role }
+    requires lock { 0 < (shape_of hall.now).locks }
+    ensures { HasRole hall.now pass.new result }
+{
+    let seat = pass.number();
+    let after = call(hall, pass, role, act);
+    let allowed = model.apply(Event { seat, act }).is_ok();
+    assert_eq!(rt; allowed, after != role, "{act:?} of {seat}");
+    assert_eq!(rt; model.role(seat), after, "{act:?} of {seat}");
+    shows(rt, hall.load(pass, 0), model);
+    after
+}
+
+// Gives back what the seat has, by the events that its role has for it: an announced writer from upgrade has two.
+fn end<A: Abort>(
+    rt: &A,
+    hall: &Hall<NoCargo>,
+    pass: &mut Pass<NoCargo>,
+    model: &mut ModelLock,
+    role: Role,
+)
+    requires role { HasRole hall.now pass.old role }
+    requires lock { 0 < (shape_of hall.now).locks }
+    ensures { IsPassOf hall.now pass.new × (standing (view pass.new) 0 ≡ Away) }
+{
+    let role = match role {
+        Role::Announces { .. } => event(rt, hall, pass, model, role, Act::Retract),
+        _ => role,
+    };
+    let role = event(rt, hall, pass, model, role, Act::Leave);
+    if role != Role::Outside {
+        rt.abort()
+    }
+}
+
+// The digits of `code` say which seat does what; then each seat ends.
+fn sequence<A: Abort>(
+    rt: &A,
+    hall: &Hall<NoCargo>,
+    one: &mut Pass<NoCargo>,
+    two: &mut Pass<NoCargo>,
+    three: &mut Pass<NoCargo>,
+    model: &mut ModelLock,
+    code: u32,
+)
+    requires one { IsPassOf hall.now one.old × (standing (view one.old) 0 ≡ Away) }
+    requires two { IsPassOf hall.now two.old × (standing (view two.old) 0 ≡ Away) }
+    requires three { IsPassOf hall.now three.old × (standing (view three.old) 0 ≡ Away) }
+    requires lock { 0 < (shape_of hall.now).locks }
+    ensures one { IsPassOf hall.now one.new × (standing (view one.new) 0 ≡ Away) }
+    ensures two { IsPassOf hall.now two.new × (standing (view two.new) 0 ≡ Away) }
+    ensures three { IsPassOf hall.now three.new × (standing (view three.new) 0 ≡ Away) }
+{
+    let mut roles = (Role::Outside, Role::Outside, Role::Outside);
+    let mut rest = code;
+    for _ in 0..STEPS {
+        let act = act_of(rest / SEATS);
+        match rest % SEATS {
+            0 => roles.0 = event(rt, hall, one, model, roles.0, act),
+            1 => roles.1 = event(rt, hall, two, model, roles.1, act),
+            _ => roles.2 = event(rt, hall, three, model, roles.2, act),
+        }
+        rest /= SEATS * ACTS;
+    }
+    end(rt, hall, one, model, roles.0);
+    end(rt, hall, two, model, roles.1);
+    end(rt, hall, three, model, roles.2);
+}
+
+#[test]
+fn every_sequence_of_three_events(rt: HostRuntime) {
+    for policy in [Policy::WritePriority, Policy::ReadPriority] {
+        let made = Hall::make(rt.alloc(), 1, 4, policy, 3, 0, NoCargo);
+        let Ok((hall, first)) = made else { rt.abort() };
+        let mut one = first;
+        let mut two = hall.split(&mut one, 1, 0);
+        let mut three = hall.split(&mut one, 1, 0);
+        let mut model = ModelLock::new(rt.alloc(), policy);
+        for code in 0..SEQUENCES {
+            sequence(&rt, &hall, &mut one, &mut two, &mut three, &mut model, code);
+        }
+    }
+}
