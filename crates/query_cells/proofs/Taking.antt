@@ -22,7 +22,8 @@ use Rattle.query_rules.specs.Maps.{no_entries}
 use Rattle.map_cargo.specs.declared.size.MapCargo.{MapCargo}
 use Rattle.map_cargo.specs.declared.entry.Part.{Part}
 use Rattle.map_cargo.specs.Gaining.{gained_from}
-use Rattle.map_cargo.specs.Steps.{Gained, IsIdle}
+use Rattle.map_cargo.specs.StepLaws.{more_none, more_one, more_then}
+use Rattle.map_cargo.specs.Steps.{Gained, IsIdle, MoreSteps}
 use Rattle.query_cells.specs.Answers.{TellsNothing, Took, TurnedAway}
 
 -- steps that left all that the pass knows and has to draw
@@ -32,15 +33,16 @@ pub record Unchanged (v w : View Part) : Type 0 where
   pub quota : w.quota ≡ v.quota
   pub span : w.span ≡ v.span
   pub taken : w.taken ≡ v.taken
+  pub steps : MoreSteps v w
 
 pub unchanged_none : (v : View Part) → Unchanged v v
-unchanged_none v = record { part = refl; number = refl; quota = refl; span = refl; taken = refl }
+unchanged_none v = record { part = refl; number = refl; quota = refl; span = refl; taken = refl; steps = more_none v }
 
 pub unchanged_then : (v u w : View Part) → Unchanged v u → Unchanged u w → Unchanged v w
-unchanged_then v u w a b = record { part = b.part ∙ a.part; number = b.number ∙ a.number; quota = b.quota ∙ a.quota; span = b.span ∙ a.span; taken = b.taken ∙ a.taken }
+unchanged_then v u w a b = record { part = b.part ∙ a.part; number = b.number ∙ a.number; quota = b.quota ∙ a.quota; span = b.span ∙ a.span; taken = b.taken ∙ a.taken; steps = more_then v u w a.steps b.steps }
 
 pub unchanged_look : (v w : View Part) (lock : ℕ) → OnlyLooked v lock w → Unchanged v w
-unchanged_look v w lock looked = record { part = looked.part; number = looked.number; quota = looked.quota; span = looked.span; taken = looked.taken }
+unchanged_look v w lock looked = record { part = looked.part; number = looked.number; quota = looked.quota; span = looked.span; taken = looked.taken; steps = record { added = looked.steps.0; stand = looked.steps.1 } }
 
 unchanged_step : (v w : View Part) (kind : Kind) (lock word : ℕ) (won : Bool) (y : Standing) → w ≡ after_step v kind lock word won y v.part → Unchanged v w
 unchanged_step v w kind lock word won y is = record {
@@ -49,7 +51,11 @@ unchanged_step v w kind lock word won y is = record {
   quota = ap (λ (z : View Part). z.quota) is;
   span = ap (λ (z : View Part). z.span) is;
   taken = ap (λ (z : View Part). z.taken) is;
+  steps = more_one v w _ (ap (λ (z : View Part). z.steps) is);
 }
+
+pub unchanged_once : (v : View Part) (kind : Kind) (lock word : ℕ) → Unchanged v (after_look v kind lock word)
+unchanged_once v kind lock word = unchanged_step v (after_look v kind lock word) kind lock word false (standing v lock) refl
 
 -- such steps tell nothing
 pub unchanged_tells : (v w : View Part) → Unchanged v w → TellsNothing v w
@@ -62,10 +68,11 @@ unchanged_tells v w h = record {
   told = ap (λ (p : Part). p.told) h.part;
   row = ap (λ (p : Part). p.row) h.part;
   stored = ap (λ (p : Part). p.stored) h.part;
+  steps = h.steps;
 }
 
 pub gained_later : (lock : ℕ) (v u w : View Part) → Unchanged v u → Gained no_entries lock u w → Gained no_entries lock v w
-gained_later lock v u w h got = gained_from no_entries lock u v w h.part h.number h.quota h.span h.taken got
+gained_later lock v u w h got = gained_from no_entries lock u v w h.part h.number h.quota h.span h.taken h.steps got
 
 module _ (g : Ghosts MapCargo Part) where
   pub reader_unchanged : (v : View Part) (lock : ℕ) (w : View Part) (f : TryFault) → RefusesShared g v lock w f → Unchanged v w

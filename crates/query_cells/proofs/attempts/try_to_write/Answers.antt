@@ -3,7 +3,7 @@ use Rattle.hall.specs.Passes.{view}
 use Rattle.shared_mutex.specs.Refused.{ReadAsWriter, exclusive_refused}
 use Rattle.query_rules.specs.Maps.{no_entries}
 use Rattle.map_cargo.specs.Gaining.{gained_by}
-use Rattle.query_cells.proofs.Taking.{announced, gained_later, unchanged_then}
+use Rattle.query_cells.proofs.Taking.{announced, gained_later, unchanged_then, turned_away, writer_unchanged}
 use Rattle.query_cells.proofs.attempts.try_to_write.Goals as goal
 
 pub returns-in-Ok-clause-taken : goal.returns-in-Ok-clause-taken
@@ -21,3 +21,20 @@ pub returns-in-Err-Busy-clause-busy : goal.returns-in-Err-Busy-clause-busy
 returns-in-Err-Busy-clause-busy g c =
     let e = c.in-Err-Busy in let w = view c.try_wlock.new.pass in
     subst (ReadAsWriter w c.args.cell) e.field-0-is (exclusive_refused _ (view c.trying.pass) c.args.cell w e.field-0 c.trying.invariant.away e.ensures.step)
+
+pub returns-in-Err-Busy-clause-taken : goal.returns-in-Err-Busy-clause-taken
+returns-in-Err-Busy-clause-taken g c =
+    let e = c.in-Err-Busy in let so_far = c.trying.invariant in let v = view c.args.pass.now in let u = view c.trying.pass in let w = view c.try_wlock.new.pass in
+    turned_away v u w c.args.cell so_far.quiet (writer_unchanged _ u c.args.cell w e.field-0 e.ensures.step) so_far.elsewhere e.ensures.elsewhere e.ensures.stands
+
+pub trying-preserved : goal.trying-preserved
+trying-preserved g c =
+    let e = c.in-Err-Raced in let so_far = c.trying.invariant in let v = view c.args.pass.now in let u = view c.trying.pass in let w = view c.try_wlock.new.pass in
+    record {
+      next = tt;
+      goes_on = tt;
+      pass = e.ensures.pass;
+      away = e.ensures.stands;
+      quiet = unchanged_then v u w so_far.quiet (writer_unchanged _ u c.args.cell w e.field-0 e.ensures.step);
+      elsewhere = λ k ne. e.ensures.elsewhere k ne ∙ so_far.elsewhere k ne;
+    }
