@@ -13,7 +13,7 @@ use Rattle.hall.specs.declared.view.View.{View}
 use Rattle.hall.specs.Cargo.{NotesAside, exclusive_mode, learnt_seat}
 use Rattle.hall.specs.Moves.{Moment}
 use Rattle.hall.specs.Refusals.{BusyForReading, BusyForWriting, ReadTwoWords, several_readers, several_writers, several_racers}
-use Rattle.hall.specs.Views.{after_step, footprints_left, standing}
+use Rattle.hall.specs.Views.{after_step, entry_of, footprints_left, standing}
 use Rattle.query_rules.specs.declared.query.Query.{Query}
 use Rattle.query_rules.specs.declared.query.Query.TheVariants.{TryGet, TryPut, GetBy, PutBy}
 use Rattle.query_rules.specs.declared.query.Reply.{Reply}
@@ -28,6 +28,7 @@ use Rattle.map_cargo.specs.Entries.{named_cells}
 use Rattle.map_cargo.specs.History.{Seat, IsRefusal, Knows, OneHistory, Stands, is_wrote, mode_at}
 use Rattle.map_cargo.specs.Laws.{each_set, each_back}
 use Rattle.map_cargo.specs.Licences.{BusyBy, LateBy, Licensed}
+use Rattle.map_cargo.specs.StepLaws.{more_one}
 use Rattle.map_cargo.specs.Steps.{Alike, told_too}
 
 busy_refuses : (reply : Reply) (Reads : Type 0) → BusyBy reply Reads → IsRefusal reply
@@ -92,12 +93,14 @@ refuses opening c id caller index query reply t q is refusal ws qs h apart at fo
 -- a load from away leaves all as it was but the steps and the part
 pub load_alike : (v w : View Part) (lock found : ℕ) (part : Part) → standing v lock ≡ Away → w ≡ after_step v Load lock found false (standing v lock) part → Alike v w
 load_alike v w lock found part away is = record {
+  shape = ap (λ (z : View Part). z.shape) is;
   standings = ap (λ (z : View Part). z.standings) is ∙ set-get_or v.standings lock Away;
   number = ap (λ (z : View Part). z.number) is;
   span = ap (λ (z : View Part). z.span) is;
   taken = ap (λ (z : View Part). z.taken) is;
   trail = ap (λ (z : View Part). z.trail) is ∙ ap (λ (x : Standing). footprints_left v.number lock x x ++ v.trail) away;
   quota = ap (λ (z : View Part). z.quota) is;
+  steps = more_one v w (entry_of v Load lock found false) (ap (λ (z : View Part). z.steps) is);
 }
 
 module _ {C P : Type 0} (g : Ghosts C P) (v w : View P) (lock found left : ℕ) (m : Moment g v w lock found left None) where

@@ -1,5 +1,5 @@
 -- What a pass knows after it took a lock.
-use Rattle.std.specs.Prelude.{◌≡◌, ◌≢◌, ℕ, true, List}
+use Rattle.std.specs.Prelude.{◌≡◌, ◌≢◌, ℕ, true, List, [], ◌∷◌}
 use Rattle.std.proofs.Common.{refl, sym, ap, subst, ◌∙◌}
 use mathlib.Core.Logic.{dite}
 use native.Mathlib.Decide.{ℕ_discrete}
@@ -7,14 +7,15 @@ use Rattle.hall.specs.declared.view.View.{View}
 use Rattle.hall.specs.declared.view.Kind.{Kind}
 use Rattle.hall.specs.declared.view.Standing.{Standing}
 use Rattle.hall.specs.declared.view.Standing.TheVariants.{Away}
-use Rattle.hall.specs.Views.{standing, after_step}
+use Rattle.hall.specs.Views.{standing, after_step, entry_of}
 use Rattle.query_rules.specs.Maps.{Maps}
 use Rattle.map_cargo.specs.declared.entry.Entry.{Entry}
 use Rattle.map_cargo.specs.declared.entry.Part.{Part}
 use Rattle.map_cargo.specs.Cells.{Means}
 use Rattle.map_cargo.specs.History.{Learns, IsSettled, words_of, plain_of}
 use Rattle.map_cargo.specs.Laws.{after_gain}
-use Rattle.map_cargo.specs.Steps.{Gained, placed}
+use Rattle.map_cargo.specs.StepLaws.{more_then}
+use Rattle.map_cargo.specs.Steps.{Gained, MoreSteps, placed}
 
 module _ (opening : Maps) where
   pub gained_by : (kind : Kind) (y : Standing) (v : View Part) (lock found : ℕ) (w : View Part) → (ws : List ℕ) × (part : Part) × Learns opening lock v.part part × (w ≡ after_step v kind lock found true y part) → Gained opening lock v w
@@ -31,6 +32,7 @@ module _ (opening : Maps) where
         quota = refl;
         span = refl;
         taken = refl;
+        steps = record { added = entry_of v kind lock found true ∷ []; stand = refl };
       }
 
 -- a pass that is away from one lock and from each other is away from all
@@ -38,8 +40,8 @@ pub everywhere : (v : View Part) (cell : ℕ) → standing v cell ≡ Away → (
 everywhere v cell here others k = dite (ℕ_discrete k cell) (λ same. subst (λ (i : ℕ). standing v i ≡ Away) (sym same) here) (others k)
 
 -- steps before a gain that left the part as it was don't matter
-pub gained_from : (opening : Maps) (lock : ℕ) (u v w : View Part) → u.part ≡ v.part → u.number ≡ v.number → u.quota ≡ v.quota → u.span ≡ v.span → u.taken ≡ v.taken → Gained opening lock u w → Gained opening lock v w
-gained_from opening lock u v w part number quota span taken h = record {
+pub gained_from : (opening : Maps) (lock : ℕ) (u v w : View Part) → u.part ≡ v.part → u.number ≡ v.number → u.quota ≡ v.quota → u.span ≡ v.span → u.taken ≡ v.taken → MoreSteps v u → Gained opening lock u w → Gained opening lock v w
+gained_from opening lock u v w part number quota span taken steps h = record {
   settled = h.settled;
   words = λ k ne. h.words k ne ∙ ap (λ (p : Part). words_of p k) part;
   plain = λ k ne. h.plain k ne ∙ ap (λ (p : Part). plain_of opening p k) part;
@@ -51,6 +53,7 @@ gained_from opening lock u v w part number quota span taken h = record {
   quota = h.quota ∙ quota;
   span = h.span ∙ span;
   taken = h.taken ∙ taken;
+  steps = more_then v u w steps h.steps;
 }
 
 -- a settled cell stays settled where the pass only places a read

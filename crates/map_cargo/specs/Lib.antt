@@ -3,5 +3,6 @@ pub mod Entries
 pub mod History
 pub mod Laws
 pub mod Steps
+pub mod StepLaws
 pub mod Licences
 pub mod Gaining

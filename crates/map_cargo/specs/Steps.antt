@@ -1,10 +1,13 @@
 -- What each call on a cell or on the history leaves.
-use Rattle.std.specs.Prelude.{◌≡◌, ◌≢◌, ℕ, ◌+◌, ◌<◌, ◌≤◌, ◌∷◌, List, length, slice_index, slice_set, Some, None, true, false}
+use Rattle.std.specs.Prelude.{◌≡◌, ◌≢◌, ℕ, ◌+◌, ◌<◌, ◌≤◌, Bool, zero, suc, List, [], ◌∷◌, ◌++◌, length, slice_index, slice_set, Some, None, true, false}
 use Rattle.view_sums.specs.Sums.{total}
 use Rattle.lock_model.specs.Locks.{Has}
 use Rattle.hall.specs.Cargo.{exclusive_mode}
 use Rattle.hall.specs.declared.hall.Hall.{Hall}
 use Rattle.hall.specs.declared.view.View.{View}
+use Rattle.hall.specs.declared.view.Kind.{Kind}
+use Rattle.hall.specs.declared.view.Kind.TheVariants.{StoreCargo}
+use Rattle.hall.specs.declared.view.StepEntry.{StepEntry}
 use Rattle.hall.specs.declared.view.Standing.TheVariants.{Away}
 use Rattle.hall.specs.Passes.{shape_of, cargo_of}
 use Rattle.hall.specs.Views.{standing, mode_of}
@@ -22,22 +25,40 @@ use Rattle.map_cargo.specs.History.{words_of, plain_of, is_wrote, Stands, IsSett
 abbrev pub Suits : Hall MapCargo Part → Type 0
 Suits h = (shape_of h).words ≡ word_count (cargo_of h)
 
--- a call left all of a pass but its quota, its part and its steps
+-- the steps only became more: those that were made before stand behind the new ones
+pub record MoreSteps (v w : View Part) : Type 0 where
+  pub added : List StepEntry
+  pub stand : w.steps ≡ added ++ v.steps
+
+-- a call left all of a pass but its quota and its part, and its steps became more
 pub record Stays (v w : View Part) : Type 0 where
+  pub shape : w.shape ≡ v.shape
   pub standings : w.standings ≡ v.standings
   pub number : w.number ≡ v.number
   pub span : w.span ≡ v.span
   pub taken : w.taken ≡ v.taken
   pub trail : w.trail ≡ v.trail
+  pub steps : MoreSteps v w
 
--- a call left all of a pass but its part and its steps
+-- a call left all of a pass but its part, and its steps became more
 pub record Alike (v w : View Part) : Type 0 where
+  pub shape : w.shape ≡ v.shape
   pub standings : w.standings ≡ v.standings
   pub number : w.number ≡ v.number
   pub span : w.span ≡ v.span
   pub taken : w.taken ≡ v.taken
   pub trail : w.trail ≡ v.trail
   pub quota : w.quota ≡ v.quota
+  pub steps : MoreSteps v w
+
+-- a step of the pass on a word of the cargo, which has its place behind all slots and locks
+abbrev pub cargo_step : View Part → Kind → ℕ → ℕ → Bool → StepEntry
+cargo_step v kind place word won = record { number = v.number; kind = kind; place = v.shape.slots + v.shape.locks + place; before = Away; word = word; won = won }
+
+-- the stores of the first k words of log row w, the newest first
+unfoldable pub row_stores : View Part → MapCargo → ℕ → Entry → ℕ → List StepEntry
+row_stores v c w e zero = []
+row_stores v c w e (suc k) = cargo_step v StoreCargo (log_place c w k) (slice_index (log_words e) k) true ∷ row_stores v c w e k
 
 -- the part after a word of a cell was stored
 abbrev pub rewrote : Part → ℕ → ℕ → ℕ → Part
@@ -90,6 +111,7 @@ module _ (opening : Maps) where
     pub quota : w.quota ≡ v.quota
     pub span : w.span ≡ v.span
     pub taken : w.taken ≡ v.taken
+    pub steps : MoreSteps v w
 
   -- a write was drawn, and so many words of its log row are stored: its plain maps are those that the write leaves, and it has a number that the pass hadn't seen
   pub record Drew (stored : ℕ) (p q : Part) (number : ℕ) (e : Entry) : Type 0 where

@@ -139,6 +139,7 @@ pub fn len(hall: &Hall<MapCargo>, pass: &mut Pass<MapCargo>, cell: u64) -> u64
 }
 
 /// The row of a key, where it has one, and how many rows there are.
+#[tactic(auto, using(crate::specs::StepLaws::alike_none, crate::specs::StepLaws::alike_then))]
 fn find(hall: &Hall<MapCargo>, pass: &mut Pass<MapCargo>, cell: u64, key: u64) -> (Option<u64>, u64)
     requires pass { IsPassOf hall.now pass.old }
     requires suits { Suits hall.now }
@@ -163,6 +164,7 @@ fn find(hall: &Hall<MapCargo>, pass: &mut Pass<MapCargo>, cell: u64, key: u64) -
 }
 
 /// The value of a key in a cell, which the pass holds in any mode. It looks at up to as many rows as the cell has keys.
+#[tactic(auto, using(crate::specs::StepLaws::alike_then))]
 pub fn get(hall: &Hall<MapCargo>, pass: &mut Pass<MapCargo>, cell: u64, key: u64) -> Option<u64>
     requires pass { IsPassOf hall.now pass.old }
     requires suits { Suits hall.now }

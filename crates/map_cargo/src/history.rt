@@ -1,14 +1,16 @@
 //! Drawing a write and placing a read: where a reply stands in the one history.
-ghost use Rattle.std.specs.Prelude.{◌≡◌, ◌≢◌, ◌<◌, ◌≤◌, ◌+◌, ◌^◌, ◌∷◌, ℕ, MatchResult, slice_index, length};
+ghost use Rattle.std.specs.Prelude.{◌≡◌, ◌≢◌, ◌<◌, ◌≤◌, ◌+◌, ◌^◌, ◌∷◌, ◌++◌, ℕ, IfOk, MatchResult, slice_index, length, true, false};
 ghost use Rattle.hall.specs.Passes.{view, IsPassOf, cargo_of};
+ghost use Rattle.hall.specs.declared.view.Kind.TheVariants.{LoadCargo, StoreCargo, AddCargo};
 ghost use Rattle.lock_model.specs.Locks.{Has};
 ghost use Rattle.query_rules.specs.declared.query.Query.TheVariants.{Audit};
 ghost use Rattle.query_rules.specs.declared.query.Said.TheVariants.{Absent};
 ghost use Rattle.query_rules.specs.Maps.{no_entries};
 ghost use Rattle.map_cargo.specs.declared.entry.Entry.{Entry};
 ghost use Rattle.map_cargo.specs.declared.entry.Told.TheVariants as told;
+ghost use Rattle.map_cargo.specs.Cells.{log_place, number_place};
 ghost use Rattle.map_cargo.specs.Entries.{log_words};
-ghost use Rattle.map_cargo.specs.Steps.{Suits, Stays, Alike, Drew, logged, placed, MayDraw, MayPlace};
+ghost use Rattle.map_cargo.specs.Steps.{Suits, Stays, Alike, Drew, cargo_step, logged, placed, row_stores, MayDraw, MayPlace};
 
 use crate::entry::Entry;
 use crate::size::MapCargo;
@@ -104,6 +106,7 @@ fn draw_by<K: Line>(hall: &Hall<MapCargo>, pass: &mut Pass<MapCargo>, entry: &En
     ensures quota { (view pass.new).quota + 1 ≡ (view pass.old).quota }
     ensures drew { Drew no_entries 0 (view pass.old).part (view pass.new).part result entry.now }
     ensures number { result < (cargo_of hall.now).writes }
+    ensures step { (view pass.new).steps ≡ cargo_step (view pass.old) AddCargo (number_place (cargo_of hall.now)) result true ∷ (view pass.old).steps }
 {
     let place = hall.cargo().number_place();
     hall.add_cargo::<Draws<K>>(pass, place, 1)
@@ -118,6 +121,7 @@ fn draw_number(hall: &Hall<MapCargo>, pass: &mut Pass<MapCargo>, entry: &Entry) 
     ensures quota { (view pass.new).quota + 1 ≡ (view pass.old).quota }
     ensures drew { Drew no_entries 0 (view pass.old).part (view pass.new).part result entry.now }
     ensures number { result < (cargo_of hall.now).writes }
+    ensures step { (view pass.new).steps ≡ cargo_step (view pass.old) AddCargo (number_place (cargo_of hall.now)) result true ∷ (view pass.old).steps }
 {
     draw_by::<Brand>(hall, pass, entry)
 }
@@ -138,6 +142,7 @@ fn log_by<K: Line>(
     requires value { value ≡ slice_index (log_words entry.now) index }
     ensures pass { IsPassOf hall.now pass.new × Alike (view pass.old) (view pass.new) }
     ensures part { (view pass.new).part ≡ logged (view pass.old).part (index + 1) }
+    ensures step { (view pass.new).steps ≡ cargo_step (view pass.old) StoreCargo (log_place (cargo_of hall.now) number index) (slice_index (log_words entry.now) index) true ∷ (view pass.old).steps }
 {
     let place = hall.cargo().number_place();
     hall.store_cargo::<Logs<K>>(pass, place + 1 + 8 * number + index, value);
@@ -160,12 +165,13 @@ fn log(
     requires value { value ≡ slice_index (log_words entry.now) index }
     ensures pass { IsPassOf hall.now pass.new × Alike (view pass.old) (view pass.new) }
     ensures part { (view pass.new).part ≡ logged (view pass.old).part (index + 1) }
+    ensures step { (view pass.new).steps ≡ cargo_step (view pass.old) StoreCargo (log_place (cargo_of hall.now) number index) (slice_index (log_words entry.now) index) true ∷ (view pass.old).steps }
 {
     log_by::<Brand>(hall, pass, entry, number, index, value);
 }
 
 // Stores the log row that the pass has drawn.
-#[tactic(auto, using(crate::proofs::Drawing::logged_so_far))]
+#[tactic(auto, using(crate::proofs::Drawing::logged_so_far, crate::specs::StepLaws::alike_none, crate::specs::StepLaws::no_stores))]
 fn log_row(hall: &Hall<MapCargo>, pass: &mut Pass<MapCargo>, entry: &Entry, number: u64)
     requires pass { IsPassOf hall.now pass.old }
     requires suits { Suits hall.now }
@@ -174,6 +180,7 @@ fn log_row(hall: &Hall<MapCargo>, pass: &mut Pass<MapCargo>, entry: &Entry, numb
     requires entry { Has (view pass.old).part.told (told.Wrote number entry.now) × (entry.now.caller ≡ (view pass.old).number) }
     ensures pass { IsPassOf hall.now pass.new × Alike (view pass.old) (view pass.new) }
     ensures part { (view pass.new).part ≡ logged (view pass.old).part 8 }
+    ensures steps { (view pass.new).steps ≡ row_stores (view pass.old) (cargo_of hall.now) number entry.now 8 ++ (view pass.old).steps }
 {
     let words = row_of(entry, pass.number());
     for index in 0..8 {
@@ -187,7 +194,7 @@ fn log_row(hall: &Hall<MapCargo>, pass: &mut Pass<MapCargo>, entry: &Entry, numb
 /// Afterwards the pass's plain maps are those that the write leaves, so that a cell is settled once its words mean its new
 /// map; whether the words change before or after the draw is free. `QuotaSpent` comes exactly at the quota 0; then nothing
 /// is changed.
-#[tactic(auto, using(crate::proofs::Drawing::drew_whole))]
+#[tactic(auto, using(crate::proofs::Drawing::drew_whole, crate::specs::StepLaws::stays_none, crate::specs::StepLaws::stays_then))]
 pub fn draw(
     hall: &Hall<MapCargo>,
     pass: &mut Pass<MapCargo>,
@@ -199,6 +206,7 @@ pub fn draw(
     requires may { MayDraw no_entries (cargo_of hall.now) (view pass.old) entry.now }
     ensures pass { IsPassOf hall.now pass.new × Stays (view pass.old) (view pass.new) }
     ensures drawn { MatchResult result (λ number. Drew no_entries 8 (view pass.old).part (view pass.new).part number entry.now × ((view pass.new).quota + 1 ≡ (view pass.old).quota) × (number < (cargo_of hall.now).writes)) (λ _. ((view pass.old).quota ≡ 0) × (view pass.new ≡ view pass.old)) }
+    ensures steps { IfOk result (λ number. (view pass.new).steps ≡ row_stores (view pass.old) (cargo_of hall.now) number entry.now 8 ++ (cargo_step (view pass.old) AddCargo (number_place (cargo_of hall.now)) number true ∷ (view pass.old).steps)) }
 {
     if pass.quota() == 0 {
         return Err(QuotaSpent);
@@ -216,6 +224,7 @@ fn place_by<K: Line>(hall: &Hall<MapCargo>, pass: &mut Pass<MapCargo>, entry: &E
     ensures pass { IsPassOf hall.now pass.new × Alike (view pass.old) (view pass.new) }
     ensures placed { ((view pass.new).part ≡ placed (view pass.old).part result entry.now) × ((view pass.old).part.seen ≤ result) }
     ensures number { result ≤ (cargo_of hall.now).writes }
+    ensures step { (view pass.new).steps ≡ cargo_step (view pass.old) LoadCargo (number_place (cargo_of hall.now)) result false ∷ (view pass.old).steps }
 {
     let place = hall.cargo().number_place();
     hall.load_cargo::<Places<K>>(pass, place)
@@ -231,6 +240,7 @@ pub fn place_read(hall: &Hall<MapCargo>, pass: &mut Pass<MapCargo>, entry: &Entr
     ensures pass { IsPassOf hall.now pass.new × Alike (view pass.old) (view pass.new) }
     ensures placed { ((view pass.new).part ≡ placed (view pass.old).part result entry.now) × ((view pass.old).part.seen ≤ result) }
     ensures number { result ≤ (cargo_of hall.now).writes }
+    ensures step { (view pass.new).steps ≡ cargo_step (view pass.old) LoadCargo (number_place (cargo_of hall.now)) result false ∷ (view pass.old).steps }
 {
     place_by::<Brand>(hall, pass, entry)
 }

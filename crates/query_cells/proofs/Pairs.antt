@@ -7,7 +7,7 @@ use Rattle.lock_model.specs.Locks.{Has}
 use Rattle.hall.specs.declared.view.View.{View}
 use Rattle.hall.specs.declared.view.Standing.{Standing}
 use Rattle.hall.specs.declared.view.Standing.TheVariants.{Away, Inline, Exclusive}
-use Rattle.hall.specs.Cargo.{exclusive_mode}
+use Rattle.hall.specs.Cargo.{shared_mode, exclusive_mode}
 use Rattle.hall.specs.Views.{standing, mode_of}
 use Rattle.shared_mutex.specs.Acquiring.{ElsewhereSame}
 use Rattle.query_rules.specs.declared.Query.{Query}
@@ -20,9 +20,10 @@ use Rattle.map_cargo.specs.declared.size.MapCargo.{MapCargo}
 use Rattle.map_cargo.specs.declared.entry.Part.{Part}
 use Rattle.map_cargo.specs.Cells.{Means, lookup}
 use Rattle.map_cargo.specs.History.{words_of, plain_of, IsSettled, IsRested}
-use Rattle.map_cargo.specs.Steps.{Alike, Stays, Gained, Left, MayPlace, IsIdle}
+use Rattle.map_cargo.specs.StepLaws.{alike_none, alike_then}
+use Rattle.map_cargo.specs.Steps.{Alike, Stays, Gained, Left, MayPlace, IsIdle, Reworded}
 use Rattle.query_cells.specs.Asked.{entry_for}
-use Rattle.query_cells.specs.Answers.{ChangesWords, Follows, HoldsTwo, Leaves, MayTell, TellsNothing}
+use Rattle.query_cells.specs.Answers.{ChangesWords, Follows, HoldsFor, HoldsTwo, Leaves, MayTell, TellsNothing}
 use Rattle.query_cells.proofs.Replies.{nothing_gained, nothing_then}
 
 -- a cell beside one that was gained stays settled
@@ -85,9 +86,36 @@ two_left v u w a b y h off_b same_b off_a same_a rested left_b left_a = (
 pub both_left : (v u w : View Part) → Left v u → Left u w → Left v w
 both_left v u w a b = record { part = b.part ∙ a.part; number = b.number ∙ a.number; quota = b.quota ∙ a.quota; span = b.span ∙ a.span; taken = b.taken ∙ a.taken }
 
+-- looking at words, changing them, and one after the other
+pub words_none : (v : View Part) → ChangesWords v v
+words_none v = record { alike = alike_none v; writes = refl; seen = refl; told = refl; row = refl; stored = refl }
+
+pub words_read : (v w : View Part) → Alike v w → w.part ≡ v.part → ChangesWords v w
+words_read v w alike same = record {
+  alike = alike;
+  writes = ap (λ (p : Part). p.writes) same;
+  seen = ap (λ (p : Part). p.seen) same;
+  told = ap (λ (p : Part). p.told) same;
+  row = ap (λ (p : Part). p.row) same;
+  stored = ap (λ (p : Part). p.stored) same;
+}
+
+pub words_put : (v w : View Part) (cell : ℕ) → Alike v w → Reworded cell v.part w.part → ChangesWords v w
+words_put v w cell alike h = record { alike = alike; writes = h.writes; seen = h.seen; told = h.told; row = h.row; stored = h.stored }
+
+pub words_then : (v u w : View Part) → ChangesWords v u → ChangesWords u w → ChangesWords v w
+words_then v u w a b = record {
+  alike = alike_then v u w a.alike b.alike;
+  writes = b.writes ∙ a.writes;
+  seen = b.seen ∙ a.seen;
+  told = b.told ∙ a.told;
+  row = b.row ∙ a.row;
+  stored = b.stored ∙ a.stored;
+}
+
 -- changing words tells nothing
 pub words_tell_nothing : (v w : View Part) → ChangesWords v w → TellsNothing v w
-words_tell_nothing v w h = record { number = h.alike.number; span = h.alike.span; taken = h.alike.taken; quota = h.alike.quota; seen = h.seen; told = h.told; row = h.row; stored = h.stored }
+words_tell_nothing v w h = record { number = h.alike.number; span = h.alike.span; taken = h.alike.taken; quota = h.alike.quota; seen = h.seen; told = h.told; row = h.row; stored = h.stored; steps = h.alike.steps }
 
 still_stands : (v w : View Part) (k : ℕ) → w.standings ≡ v.standings → standing w k ≡ standing v k
 still_stands v w k same = ap (λ (l : List Standing). slice_index_or l k Away) same
@@ -105,6 +133,7 @@ may_move c o v w from to key n said near_from near_to h words says quiet quota r
   near = λ k has. one_of_two (λ (i : ℕ). i < c.cells) from to k has near_from near_to;
   holds = λ k has. one_of_two (λ (i : ℕ). mode_of (standing w i) ≡ exclusive_mode) from to k has
       (ap mode_of (still_stands v w from words.alike.standings ∙ h.first)) (ap mode_of (still_stands v w to words.alike.standings ∙ h.second));
+  mode = refl;
   says = ap (λ (m : Maps). reply_of c.rows m (query.Move from to key n)) (same_plain v.part w.part words.writes) ∙ says;
   quota = λ e. subst (λ (q : ℕ). 1 ≤ q) (sym (words.alike.quota ∙ quiet.quota)) quota;
   rested = words.stored ∙ quiet.stored ∙ rested;
@@ -128,20 +157,20 @@ two_told v w x a b q said h words stays follows leaves_a leaves_b = record {
 shared_is_some : (y : Standing) → y ≡ Inline → mode_of y ≢ None
 shared_is_some y is none = let e : mode_of Inline ≡ None = ap mode_of (sym is) ∙ none in cc
 
+spoken_two : (t : Bool) (x y cell : ℕ) → Has (cond t [] (x ∷ y ∷ [])) cell → Has (x ∷ y ∷ []) cell
+spoken_two true x y cell h = absurd h
+spoken_two false x y cell h = h
+
 -- what was read of two held cells may be placed
 pub may_both : (c : MapCargo) (v w : View Part) (index a b key : ℕ) (said : Said) → a < c.cells → b < c.cells → HoldsTwo a b Inline v → Alike v w → w.part ≡ v.part → reply_of c.rows (plain_of no_entries v.part) (query.Both a b key) ≡ Some said → is_write said ≡ false
     → MayPlace no_entries c w (entry_for w.number index (query.Both a b key) said)
 may_both c v w index a b key said near_a near_b h alike same says reads = record {
-  near = λ k has. one_of_two (λ (i : ℕ). i < c.cells) a b k (spoken_of (a == b) a b k has) near_a near_b;
-  holds = λ k has. one_of_two (λ (i : ℕ). mode_of (standing w i) ≢ None) a b k (spoken_of (a == b) a b k has)
+  near = λ k has. one_of_two (λ (i : ℕ). i < c.cells) a b k (spoken_two (a == b) a b k has) near_a near_b;
+  holds = λ k has. one_of_two (λ (i : ℕ). mode_of (standing w i) ≢ None) a b k (spoken_two (a == b) a b k has)
       (shared_is_some (standing w a) (still_stands v w a alike.standings ∙ h.first)) (shared_is_some (standing w b) (still_stands v w b alike.standings ∙ h.second));
   said = ap (λ (p : Part). reply_of c.rows (plain_of no_entries p) (query.Both a b key)) same ∙ says;
   reads = reads;
 }
-  where
-    spoken_of : (t : Bool) (x y cell : ℕ) → Has (cond t [] (x ∷ y ∷ [])) cell → Has (x ∷ y ∷ []) cell
-    spoken_of true x y cell h = absurd h
-    spoken_of false x y cell h = h
 
 pub two_read : (v w x : View Part) (a b : ℕ) (q : Query) (said : Said) → HoldsTwo a b Inline v → ChangesWords v w → w.part ≡ v.part → Alike w x → Follows w x q said → is_write said ≡ false → HoldsTwo a b Inline x
 two_read v w x a b q said h words same alike follows reads =
@@ -179,3 +208,17 @@ may_same_both c v index a b key e =
 
 pub idle_alike : (v w : View Part) → Alike v w → IsRested w.part → IsIdle v → IsIdle w
 idle_alike v w alike rested idle = (λ k. still_stands v w k alike.standings ∙ idle.0 k, rested)
+
+-- two cells that are held for reading are held as their query asks
+pub two_for : (v w : View Part) (a b key : ℕ) → HoldsTwo a b Inline v → Alike v w → HoldsFor (query.Both a b key) w
+two_for v w a b key h alike = record {
+  each = λ k has. one_of_two (λ (i : ℕ). mode_of (standing w i) ≡ shared_mode) a b k (spoken_two (a == b) a b k has)
+      (ap mode_of (still_stands v w a alike.standings ∙ h.first)) (ap mode_of (still_stands v w b alike.standings ∙ h.second));
+}
+
+-- of two cells that are the same one nothing is held
+pub none_for_move : (v : View Part) (a b key n : ℕ) → a ≡ b → HoldsFor (query.Move a b key n) v
+none_for_move v a b key n e = record { each = λ k has. absurd (subst (λ (t : Bool). Has (cond t [] (a ∷ b ∷ [])) k) (eq_test a b e) has) }
+
+pub none_for_both : (v : View Part) (a b key : ℕ) → a ≡ b → HoldsFor (query.Both a b key) v
+none_for_both v a b key e = record { each = λ k has. absurd (subst (λ (t : Bool). Has (cond t [] (a ∷ b ∷ [])) k) (eq_test a b e) has) }

@@ -14,14 +14,16 @@ use Rattle.query_rules.specs.declared.query.Query.TheVariants as query
 use Rattle.query_rules.specs.declared.query.Reply.{Reply}
 use Rattle.query_rules.specs.declared.query.Reply.TheVariants.{Placed, Busy, Late, Job}
 use Rattle.query_rules.specs.History.{IsKindFor}
+use Rattle.map_cargo.specs.declared.size.MapCargo.{MapCargo}
 use Rattle.map_cargo.specs.declared.entry.Told.TheVariants.{Refused}
 use Rattle.map_cargo.specs.declared.entry.Part.{Part}
 use Rattle.map_cargo.specs.Entries.{named_cells}
 use Rattle.map_cargo.specs.Gaining.{everywhere}
 use Rattle.map_cargo.specs.History.{IsRested}
 use Rattle.map_cargo.specs.Licences.{Licensed, LoadedOnce, MayRefuse, licence_joined, still_licensed}
-use Rattle.map_cargo.specs.Steps.{Alike, IsIdle, told_too}
+use Rattle.map_cargo.specs.Steps.{Alike, IsIdle, MoreSteps, told_too}
 use Rattle.query_cells.specs.Asked.{AddsReply, IsForced, IsLateBy, WasRefused, is_granted, is_job, tells_write}
+use Rattle.query_cells.specs.Placing.{IsPlacedUnder}
 use Rattle.query_cells.specs.Answers.{Tells, TellsNothing, TurnedAway}
 
 -- what a licensed reply is
@@ -29,13 +31,14 @@ pub record Refusable (q : Query) (reply : Reply) : Type 0 where
   pub kind : IsKindFor q reply
   pub of_maps : is_job reply ≡ false
   pub reads : tells_write reply ≡ false
+  pub unplaced : (c : MapCargo) (v w : View Part) → MoreSteps v w → IsPlacedUnder c v w q reply
   pub adds : (n index : ℕ) (p r : Part) → r ≡ told_too p (Refused n index q reply) → AddsReply n index q reply p r
 
 busy : (q : Query) → IsKindFor q Busy → Refusable q Busy
-busy q kind = record { kind = kind; of_maps = refl; reads = refl; adds = λ n index p r is. (ap (λ (z : Part). z.told) is, ap (λ (z : Part). z.seen) is) }
+busy q kind = record { kind = kind; of_maps = refl; reads = refl; unplaced = λ c v w more. more; adds = λ n index p r is. (ap (λ (z : Part). z.told) is, ap (λ (z : Part). z.seen) is) }
 
 late : (q : Query) (now : ℕ) → IsKindFor q (Late now) → Refusable q (Late now)
-late q now kind = record { kind = kind; of_maps = refl; reads = refl; adds = λ n index p r is. (ap (λ (z : Part). z.told) is, ap (λ (z : Part). z.seen) is) }
+late q now kind = record { kind = kind; of_maps = refl; reads = refl; unplaced = λ c v w more. more; adds = λ n index p r is. (ap (λ (z : Part). z.told) is, ap (λ (z : Part). z.seen) is) }
 
 refusable : (shape : Shape) (number : ℕ) (steps : List StepEntry) (q : Query) (reply : Reply) → Licensed shape number steps q reply → Refusable q reply
 refusable shape number steps (query.TryGet cell key) Busy h = busy (query.TryGet cell key) refl
@@ -49,8 +52,8 @@ not_written true A B e x = absurd (cc)
 not_written false A B e x = x
 
 -- a refused reply was told
-pub refusal_tells : (v w : View Part) (index : ℕ) (q : Query) (reply : Reply) → MayRefuse v q reply → Alike v w → w.part ≡ told_too v.part (Refused v.number index q reply) → Tells v w index q reply
-refusal_tells v w index q reply may alike told =
+pub refusal_tells : (c : MapCargo) (v w : View Part) (index : ℕ) (q : Query) (reply : Reply) → MayRefuse v q reply → Alike v w → w.part ≡ told_too v.part (Refused v.number index q reply) → Tells c v w index q reply
+refusal_tells c v w index q reply may alike told =
     let r = refusable v.shape v.number v.steps q reply may.licence in record {
       number = alike.number;
       span = alike.span;
@@ -59,6 +62,7 @@ refusal_tells v w index q reply may alike told =
       kind = r.kind;
       of_maps = r.of_maps;
       told = r.adds v.number index v.part w.part told;
+      placing = r.unplaced c v w alike.steps;
     }
 
 pub still_rested : (v w : View Part) (index : ℕ) (q : Query) (reply : Reply) → w.part ≡ told_too v.part (Refused v.number index q reply) → IsIdle v → IsRested w.part

@@ -1,11 +1,12 @@
 -- What a reply leaves, between the taking of a cell and its giving back.
-use Rattle.std.specs.Prelude.{◌≡◌, ◌≢◌, ℕ, ◌+◌, ◌*◌, ◌<◌, ◌≤◌, Bool, true, false, List, [], ◌∷◌, MatchBool, Some, None, IsTrue, cond, ◌==◌, Option}
+use Rattle.std.specs.Prelude.{◌≡◌, ◌≢◌, ℕ, ◌+◌, ◌*◌, ◌<◌, ◌≤◌, Bool, true, false, List, [], ◌∷◌, ◌++◌, length, MatchBool, Some, None, IsTrue, cond, ◌==◌, Option}
 use Rattle.std.proofs.Common.{refl, sym, ap, ◌∙◌, subst, arith}
 use mathlib.Core.Logic.{dite}
 use native.Mathlib.Decide.{ℕ_discrete}
 use Rattle.lock_model.specs.Locks.{Has}
 use Rattle.lock_model.specs.declared.model.Mode.{Mode}
 use Rattle.hall.specs.declared.view.View.{View}
+use Rattle.hall.specs.declared.view.Kind.TheVariants.{LoadCargo, AddCargo}
 use Rattle.hall.specs.declared.view.Standing.{Standing}
 use Rattle.hall.specs.declared.view.Standing.TheVariants.{Away}
 use Rattle.hall.specs.Cargo.{exclusive_mode}
@@ -23,13 +24,16 @@ use Rattle.map_cargo.specs.declared.size.MapCargo.{MapCargo}
 use Rattle.map_cargo.specs.declared.entry.Told.{Told}
 use Rattle.map_cargo.specs.declared.entry.Told.TheVariants.{Wrote, Read, Refused}
 use Rattle.map_cargo.specs.declared.entry.Part.{Part}
-use Rattle.map_cargo.specs.Cells.{Means, lookup}
+use Rattle.map_cargo.specs.Cells.{Means, lookup, number_place}
 use Rattle.map_cargo.specs.Entries.{named_cells, spoken_cells}
 use Rattle.map_cargo.specs.Gaining.{everywhere}
 use Rattle.map_cargo.specs.History.{words_of, plain_of, IsSettled, IsRested}
-use Rattle.map_cargo.specs.Steps.{Alike, Stays, Gained, Left, Drew, IsIdle, MayDraw, MayPlace, placed}
+use Rattle.map_cargo.specs.StepLaws.{more_then}
+use Rattle.map_cargo.specs.Steps.{Alike, Stays, Gained, Left, Drew, IsIdle, MayDraw, MayPlace, cargo_step, placed, row_stores}
 use Rattle.query_cells.specs.Asked.{AddsReply, entry_for, tells_write}
-use Rattle.query_cells.specs.Answers.{Follows, MayTell, OnlyAt, Stored, Tells, TellsNothing}
+use Rattle.query_cells.specs.Placing.{mode_for}
+use Rattle.query_cells.specs.Answers.{Follows, HoldsFor, LeadsBack, MayTell, OnlyAt, Stored, Tells, TellsNothing}
+use Rattle.query_cells.proofs.Placing.{placed_read, placed_write, placing_after, placing_then}
 
 -- what a part has more doesn't hang on what else it had
 adds_from : (n m index : ℕ) (q : Query) (reply : Reply) (p s r : Part) → n ≡ m → p.seen ≡ s.seen → p.told ≡ s.told → AddsReply n index q reply p r → AddsReply m index q reply s r
@@ -42,8 +46,8 @@ adds_from n m index q (Late now) p s r number seen told h = (h.0 ∙ (λ i. Refu
 adds_from n m index q (Job at result) p s r number seen told h = (h.0 ∙ told, h.1 ∙ seen)
 
 -- a reply after steps that told nothing
-pub tells_after : (v u w : View Part) (index : ℕ) (q : Query) (reply : Reply) → TellsNothing v u → Tells u w index q reply → Tells v w index q reply
-tells_after v u w index q reply quiet h = record {
+pub tells_after : (c : MapCargo) (v u w : View Part) (index : ℕ) (q : Query) (reply : Reply) → TellsNothing v u → Tells c u w index q reply → Tells c v w index q reply
+tells_after c v u w index q reply quiet h = record {
   number = h.number ∙ quiet.number;
   span = h.span ∙ quiet.span;
   taken = h.taken ∙ quiet.taken;
@@ -51,11 +55,12 @@ tells_after v u w index q reply quiet h = record {
   kind = h.kind;
   of_maps = h.of_maps;
   told = adds_from u.number v.number index q reply u.part v.part w.part quiet.number quiet.seen quiet.told h.told;
+  placing = placing_after c v u w q reply quiet.number quiet.steps h.of_maps h.placing;
 }
 
 -- a reply, and then a cell was given back
-pub tells_then : (v u w : View Part) (index : ℕ) (q : Query) (reply : Reply) → Tells v u index q reply → Left u w → Tells v w index q reply
-tells_then v u w index q reply h left = record {
+pub tells_then : (c : MapCargo) (v u w : View Part) (index : ℕ) (q : Query) (reply : Reply) → Tells c v u index q reply → Left u w → LeadsBack c u w → Tells c v w index q reply
+tells_then c v u w index q reply h left back = record {
   number = left.number ∙ h.number;
   span = left.span ∙ h.span;
   taken = left.taken ∙ h.taken;
@@ -63,11 +68,12 @@ tells_then v u w index q reply h left = record {
   kind = h.kind;
   of_maps = h.of_maps;
   told = subst (λ (p : Part). AddsReply v.number index q reply v.part p) (sym left.part) h.told;
+  placing = placing_then c v u w q reply h.of_maps h.placing back;
 }
 
 -- taking a cell tells nothing
 pub nothing_gained : (lock : ℕ) (v w : View Part) → Gained no_entries lock v w → TellsNothing v w
-nothing_gained lock v w h = record { number = h.number; span = h.span; taken = h.taken; quota = h.quota; seen = h.seen; told = h.told; row = h.row; stored = h.stored }
+nothing_gained lock v w h = record { number = h.number; span = h.span; taken = h.taken; quota = h.quota; seen = h.seen; told = h.told; row = h.row; stored = h.stored; steps = h.steps }
 
 pub nothing_then : (v u w : View Part) → TellsNothing v u → TellsNothing u w → TellsNothing v w
 nothing_then v u w a b = record {
@@ -79,6 +85,7 @@ nothing_then v u w a b = record {
   told = b.told ∙ a.told;
   row = b.row ∙ a.row;
   stored = b.stored ∙ a.stored;
+  steps = more_then v u w a.steps b.steps;
 }
 
 -- a choice that is known
@@ -95,46 +102,6 @@ place_read_at n said e = sym (ap (λ (b : Bool). cond b (2 * n + 1) (2 * n)) e)
 
 place_write_at : (n : ℕ) (said : Said) → is_write said ≡ true → 2 * n + 1 ≡ place_of n said
 place_write_at n said e = sym (ap (λ (b : Bool). cond b (2 * n + 1) (2 * n)) e)
-
--- a read that was placed was told
-pub read_told : (c : MapCargo) (v w : View Part) (index : ℕ) (q : Query) (said : Said) (n : ℕ) → MayPlace no_entries c v (entry_for v.number index q said) → Alike v w → w.part ≡ placed v.part n (entry_for v.number index q said) → v.part.seen ≤ n
-    → Tells v w index q (Placed (2 * n) said)
-read_told c v w index q said n may alike is behind = record {
-  number = alike.number;
-  span = alike.span;
-  taken = alike.taken;
-  quota = chosen_false (is_write said) _ _ may.reads alike.quota;
-  kind = said_kind c.rows (plain_of no_entries v.part) q said may.said;
-  of_maps = refl;
-  told = (n, place_read_at n said may.reads, behind, chosen_false (is_write said) _ _ may.reads (ap (λ (p : Part). p.seen) is, ap (λ (p : Part). p.told) is));
-}
-
-pub read_follows : (c : MapCargo) (v w : View Part) (index : ℕ) (q : Query) (said : Said) (n : ℕ) → MayPlace no_entries c v (entry_for v.number index q said) → w.part ≡ placed v.part n (entry_for v.number index q said) → IsRested v.part → Follows v w q said
-read_follows c v w index q said n may is rested = record {
-  plain = λ cell. ap (λ (p : Part). plain_of no_entries p cell) is ∙ sym (ap (λ (b : Bool). cond b (written (plain_of no_entries v.part) q) (plain_of no_entries v.part) cell) may.reads);
-  words = λ cell. ap (λ (p : Part). words_of p cell) is;
-  rested = ap (λ (p : Part). p.stored) is ∙ rested;
-}
-
--- a write that was drawn was told
-pub write_told : (c : MapCargo) (v w : View Part) (index : ℕ) (q : Query) (said : Said) (n : ℕ) → MayDraw no_entries c v (entry_for v.number index q said) → Stays v w → Drew no_entries 8 v.part w.part n (entry_for v.number index q said) → w.quota + 1 ≡ v.quota
-    → Tells v w index q (Placed (2 * n + 1) said)
-write_told c v w index q said n may stays drew quota = record {
-  number = stays.number;
-  span = stays.span;
-  taken = stays.taken;
-  quota = chosen_true (is_write said) _ _ may.writes quota;
-  kind = said_kind c.rows (plain_of no_entries v.part) q said may.said;
-  of_maps = refl;
-  told = (n, place_write_at n said may.writes, drew.fresh, chosen_true (is_write said) _ _ may.writes (drew.seen, drew.told));
-}
-
-pub write_follows : (c : MapCargo) (v w : View Part) (index : ℕ) (q : Query) (said : Said) (n : ℕ) → MayDraw no_entries c v (entry_for v.number index q said) → Drew no_entries 8 v.part w.part n (entry_for v.number index q said) → Follows v w q said
-write_follows c v w index q said n may drew = record {
-  plain = λ cell. drew.plain cell ∙ sym (ap (λ (b : Bool). cond b (written (plain_of no_entries v.part) q) (plain_of no_entries v.part) cell) may.writes);
-  words = λ cell. ap (λ (l : List (ℕ × List ℕ)). lookup [] l cell) drew.words;
-  rested = drew.stores;
-}
 
 of_two : (b : Bool) (x y cell : ℕ) → Has (cond b [] (x ∷ y ∷ [])) cell → Has (x ∷ y ∷ []) cell
 of_two true x y cell h = absurd h
@@ -159,6 +126,52 @@ spoken_named (query.Give k n) cell h = h
 spoken_named (query.Take k n) cell h = h
 spoken_named query.Audit cell h = h
 
+-- a pass that holds the cells that a query names exclusively holds those that its reply speaks of so
+pub holds_written : (v : View Part) (q : Query) → mode_for q ≡ exclusive_mode → ((cell : ℕ) → Has (named_cells q) cell → mode_of (standing v cell) ≡ exclusive_mode) → HoldsFor q v
+holds_written v q mode holds = record { each = λ cell has. holds cell (spoken_named q cell has) ∙ sym mode }
+
+-- a read that was placed was told
+pub read_told : (c : MapCargo) (v w : View Part) (index : ℕ) (q : Query) (said : Said) (n : ℕ) → MayPlace no_entries c v (entry_for v.number index q said) → HoldsFor q v → Alike v w → w.part ≡ placed v.part n (entry_for v.number index q said) → v.part.seen ≤ n → w.steps ≡ cargo_step v LoadCargo (number_place c) n false ∷ v.steps
+    → Tells c v w index q (Placed (2 * n) said)
+read_told c v w index q said n may holds alike is behind step = record {
+  number = alike.number;
+  span = alike.span;
+  taken = alike.taken;
+  quota = chosen_false (is_write said) _ _ may.reads alike.quota;
+  kind = said_kind c.rows (plain_of no_entries v.part) q said may.said;
+  of_maps = refl;
+  told = (n, place_read_at n said may.reads, behind, chosen_false (is_write said) _ _ may.reads (ap (λ (p : Part). p.seen) is, ap (λ (p : Part). p.told) is));
+  placing = placed_read c v w q said n alike holds may.reads (place_read_at n said may.reads) step;
+}
+
+pub read_follows : (c : MapCargo) (v w : View Part) (index : ℕ) (q : Query) (said : Said) (n : ℕ) → MayPlace no_entries c v (entry_for v.number index q said) → w.part ≡ placed v.part n (entry_for v.number index q said) → IsRested v.part → Follows v w q said
+read_follows c v w index q said n may is rested = record {
+  plain = λ cell. ap (λ (p : Part). plain_of no_entries p cell) is ∙ sym (ap (λ (b : Bool). cond b (written (plain_of no_entries v.part) q) (plain_of no_entries v.part) cell) may.reads);
+  words = λ cell. ap (λ (p : Part). words_of p cell) is;
+  rested = ap (λ (p : Part). p.stored) is ∙ rested;
+}
+
+-- a write that was drawn was told
+pub write_told : (c : MapCargo) (v w : View Part) (index : ℕ) (q : Query) (said : Said) (n : ℕ) → MayDraw no_entries c v (entry_for v.number index q said) → Stays v w → Drew no_entries 8 v.part w.part n (entry_for v.number index q said) → w.quota + 1 ≡ v.quota → mode_for q ≡ exclusive_mode → length v.standings ≡ v.shape.locks
+    → w.steps ≡ row_stores v c n (entry_for v.number index q said) 8 ++ (cargo_step v AddCargo (number_place c) n true ∷ v.steps) → Tells c v w index q (Placed (2 * n + 1) said)
+write_told c v w index q said n may stays drew quota mode size steps = record {
+  number = stays.number;
+  span = stays.span;
+  taken = stays.taken;
+  quota = chosen_true (is_write said) _ _ may.writes quota;
+  kind = said_kind c.rows (plain_of no_entries v.part) q said may.said;
+  of_maps = refl;
+  told = (n, place_write_at n said may.writes, drew.fresh, chosen_true (is_write said) _ _ may.writes (drew.seen, drew.told));
+  placing = placed_write c v w q said n (entry_for v.number index q said) stays (holds_written v q mode may.holds) size mode may.writes (place_write_at n said may.writes) steps;
+}
+
+pub write_follows : (c : MapCargo) (v w : View Part) (index : ℕ) (q : Query) (said : Said) (n : ℕ) → MayDraw no_entries c v (entry_for v.number index q said) → Drew no_entries 8 v.part w.part n (entry_for v.number index q said) → Follows v w q said
+write_follows c v w index q said n may drew = record {
+  plain = λ cell. drew.plain cell ∙ sym (ap (λ (b : Bool). cond b (written (plain_of no_entries v.part) q) (plain_of no_entries v.part) cell) may.writes);
+  words = λ cell. ap (λ (l : List (ℕ × List ℕ)). lookup [] l cell) drew.words;
+  rested = drew.stores;
+}
+
 is_held : (m : Option Mode) → m ≡ exclusive_mode → m ≢ None
 is_held m e none = cc
 
@@ -170,6 +183,9 @@ may_place c v index q said may reads = record {
   said = may.says;
   reads = reads;
 }
+
+pub may_hold : (c : MapCargo) (v : View Part) (q : Query) (said : Said) → MayTell c v q said → HoldsFor q v
+may_hold c v q said may = holds_written v q may.mode may.holds
 
 pub may_draw : (c : MapCargo) (v : View Part) (index : ℕ) (q : Query) (said : Said) → MayTell c v q said → is_write said ≡ true → MayDraw no_entries c v (entry_for v.number index q said)
 may_draw c v index q said may writes = record { near = may.near; holds = may.holds; said = may.says; writes = writes; rested = may.rested }

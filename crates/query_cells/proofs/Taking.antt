@@ -23,7 +23,7 @@ use Rattle.query_rules.specs.Maps.{no_entries}
 use Rattle.map_cargo.specs.declared.size.MapCargo.{MapCargo}
 use Rattle.map_cargo.specs.declared.entry.Part.{Part}
 use Rattle.map_cargo.specs.Gaining.{gained_from}
-use Rattle.map_cargo.specs.Steps.{Gained, IsIdle}
+use Rattle.map_cargo.specs.Steps.{Gained, IsIdle, MoreSteps}
 use Rattle.query_cells.specs.Answers.{TellsNothing, Took, TurnedAway}
 
 -- steps that left all that the pass knows and has to draw
@@ -52,6 +52,13 @@ unchanged_step v w kind lock word won y is = record {
   goes_on = goes_on_once v w kind lock word won y v.part is;
 }
 
+pub unchanged_once : (v : View Part) (kind : Kind) (lock word : ℕ) → Unchanged v (after_look v kind lock word)
+unchanged_once v kind lock word = unchanged_step v (after_look v kind lock word) kind lock word false (standing v lock) refl
+
+-- they only became more
+more_of : (v w : View Part) → Unchanged v w → MoreSteps v w
+more_of v w h = record { added = h.goes_on.more.0; stand = h.goes_on.more.1 }
+
 -- such steps tell nothing
 pub unchanged_tells : (v w : View Part) → Unchanged v w → TellsNothing v w
 unchanged_tells v w h = record {
@@ -63,10 +70,11 @@ unchanged_tells v w h = record {
   told = ap (λ (p : Part). p.told) h.part;
   row = ap (λ (p : Part). p.row) h.part;
   stored = ap (λ (p : Part). p.stored) h.part;
+  steps = more_of v w h;
 }
 
 pub gained_later : (lock : ℕ) (v u w : View Part) → Unchanged v u → Gained no_entries lock u w → Gained no_entries lock v w
-gained_later lock v u w h got = gained_from no_entries lock u v w h.part h.goes_on.number h.quota h.span h.taken got
+gained_later lock v u w h got = gained_from no_entries lock u v w h.part h.goes_on.number h.quota h.span h.taken (more_of v u h) got
 
 module _ (g : Ghosts MapCargo Part) where
   pub reader_unchanged : (v : View Part) (lock : ℕ) (w : View Part) (f : TryFault) → RefusesShared g v lock w f → Unchanged v w

@@ -1,11 +1,12 @@
 -- Steps of one query: what they keep, and what they tell.
-use Rattle.std.specs.Prelude.{◌≡◌, ◌≢◌, ℕ, ◌+◌, ◌<◌, ◌≤◌, List, [], ◌∷◌, MatchBool, Some, true, false}
+use Rattle.std.specs.Prelude.{◌≡◌, ◌≢◌, ℕ, ◌+◌, ◌<◌, ◌≤◌, List, [], ◌∷◌, ◌++◌, All, MatchBool, Some, true, false}
 use Rattle.lock_model.specs.Locks.{Has}
 use Rattle.hall.specs.declared.view.View.{View}
+use Rattle.hall.specs.declared.view.StepEntry.{StepEntry}
 use Rattle.hall.specs.declared.view.Standing.{Standing}
 use Rattle.hall.specs.declared.view.Standing.TheVariants.{Away}
-use Rattle.hall.specs.Cargo.{exclusive_mode}
-use Rattle.hall.specs.Views.{standing, mode_of}
+use Rattle.hall.specs.Cargo.{shared_mode, exclusive_mode}
+use Rattle.hall.specs.Views.{standing, mode_of, place_of}
 use Rattle.query_rules.specs.declared.query.Query.{Query}
 use Rattle.query_rules.specs.declared.query.Query.TheVariants.{Put}
 use Rattle.query_rules.specs.declared.query.Said.{Said}
@@ -17,8 +18,9 @@ use Rattle.map_cargo.specs.declared.entry.Part.{Part}
 use Rattle.map_cargo.specs.Cells.{Means}
 use Rattle.map_cargo.specs.Entries.{named_cells, spoken_cells}
 use Rattle.map_cargo.specs.History.{words_of, plain_of, IsRested, IsSettled}
-use Rattle.map_cargo.specs.Steps.{Alike, Gained}
+use Rattle.map_cargo.specs.Steps.{Alike, Gained, MoreSteps}
 use Rattle.query_cells.specs.Asked.{AddsReply, is_job, tells_write}
+use Rattle.query_cells.specs.Placing.{IsPlacedUnder, mode_for, number_word, stood_at}
 
 -- nothing was told and no write was drawn
 pub record TellsNothing (v w : View Part) : Type 0 where
@@ -30,9 +32,10 @@ pub record TellsNothing (v w : View Part) : Type 0 where
   pub told : w.part.told ≡ v.part.told
   pub row : w.part.row ≡ v.part.row
   pub stored : w.part.stored ≡ v.part.stored
+  pub steps : MoreSteps v w
 
 -- this reply was told, and nothing else
-pub record Tells (v w : View Part) (index : ℕ) (q : Query) (reply : Reply) : Type 0 where
+pub record Tells (c : MapCargo) (v w : View Part) (index : ℕ) (q : Query) (reply : Reply) : Type 0 where
   pub number : w.number ≡ v.number
   pub span : w.span ≡ v.span
   pub taken : w.taken ≡ v.taken
@@ -40,6 +43,19 @@ pub record Tells (v w : View Part) (index : ℕ) (q : Query) (reply : Reply) : T
   pub kind : IsKindFor q reply
   pub of_maps : is_job reply ≡ false
   pub told : AddsReply v.number index q reply v.part w.part
+  pub placing : IsPlacedUnder c v w q reply
+
+-- steps after which each lock's standing leads back to that before them, and none of which was on the number word
+pub record LeadsBack (c : MapCargo) (v w : View Part) : Type 0 where
+  pub shape : w.shape ≡ v.shape
+  pub added : List StepEntry
+  pub stand : w.steps ≡ added ++ v.steps
+  pub aside : All (λ (e : StepEntry). e.place ≢ number_word c v) added
+  pub back : (lock : ℕ) → stood_at (place_of v lock) added (standing w lock) ≡ standing v lock
+
+-- the pass holds each cell that a reply to the query speaks of in the query's mode
+pub record HoldsFor (q : Query) (v : View Part) : Type 0 where
+  pub each : (cell : ℕ) → Has (spoken_cells q) cell → mode_of (standing v cell) ≡ mode_for q
 
 -- a pass holds no other lock than this
 abbrev pub OnlyAt : ℕ → View Part → Type 0
@@ -49,6 +65,7 @@ OnlyAt lock v = (k : ℕ) → k ≢ lock → standing v k ≡ Away
 pub record MayTell (c : MapCargo) (v : View Part) (q : Query) (said : Said) : Type 0 where
   pub near : (cell : ℕ) → Has (named_cells q) cell → cell < c.cells
   pub holds : (cell : ℕ) → Has (named_cells q) cell → mode_of (standing v cell) ≡ exclusive_mode
+  pub mode : mode_for q ≡ exclusive_mode
   pub says : reply_of c.rows (plain_of no_entries v.part) q ≡ Some said
   pub quota : is_write said ≡ true → 1 ≤ v.quota
   pub rested : IsRested v.part
@@ -66,11 +83,13 @@ Stored v cell q said = Means (words_of v.part cell) (after (plain_of no_entries 
 -- a query that asks for the value of a key in a cell
 pub record AsksValue (q : Query) (cell key : ℕ) : Type 0 where
   pub names : spoken_cells q ≡ cell ∷ []
+  pub mode : mode_for q ≡ shared_mode
   pub says : (rows : ℕ) (maps : Maps) → reply_of rows maps q ≡ Some (get_says ((maps cell).value_at key))
 
 -- a query that gives a key of a cell this value
 pub record AsksPut (q : Query) (cell key value : ℕ) : Type 0 where
   pub names : named_cells q ≡ cell ∷ []
+  pub mode : mode_for q ≡ exclusive_mode
   pub says : (rows : ℕ) (maps : Maps) → reply_of rows maps q ≡ reply_of rows maps (Put cell key value)
   pub leaves : (maps : Maps) (said : Said) → after maps q said ≡ after maps (Put cell key value) said
 

@@ -6,6 +6,7 @@ ghost use Rattle.query_rules.specs.History.{IsKindFor, asks_ledger};
 ghost use Rattle.query_rules.specs.Maps.{may_write};
 ghost use Rattle.map_cargo.specs.Steps.{Suits, IsIdle};
 ghost use Rattle.query_cells.specs.Asked.{AddsJob, AddsReply, IsForced, IsLateBy, KeepsNumbers, is_granted, tells_write};
+ghost use Rattle.query_cells.specs.Placing.{IsPlacedUnder};
 
 use crate::ledger::ask_ledger;
 use crate::refusable::{ask_get_by, ask_put_by, ask_try_get, ask_try_put};
@@ -54,6 +55,7 @@ pub fn ask<R: Wait, T: Clock>(
     ensures quota { MatchBool (tells_write result) ((view pass.new).quota + 1 ≡ (view pass.old).quota) ((view pass.new).quota ≡ (view pass.old).quota) }
     ensures kind { IsKindFor query.now result }
     ensures told { AddsReply (view pass.old).number index query.now result (view pass.old).part (view pass.new).part }
+    ensures placing { IsPlacedUnder (cargo_of hall.now) (view pass.old) (view pass.new) query.now result }
     ensures ledger { AddsJob (view pass.old).number index query.now result ledger.old ledger.new }
     ensures late { IsLateBy query.now (T.last clock.new) result }
     ensures forced { IsForced query.now result (view pass.old) (view pass.new) }

@@ -57,6 +57,7 @@ pub(crate) fn remove(hall: &Hall<MapCargo>, pass: &mut Pass<MapCargo>, cell: u64
 }
 
 /// Raises the value of a key, unless the sum would be above 2^64 - 1.
+#[tactic(auto, using(map_cargo::specs::StepLaws::alike_then))]
 pub(crate) fn raise(
     hall: &Hall<MapCargo>,
     pass: &mut Pass<MapCargo>,
@@ -85,6 +86,7 @@ pub(crate) fn raise(
 }
 
 /// Gives a key the value `new` where it has `old`.
+#[tactic(auto, using(map_cargo::specs::StepLaws::alike_then))]
 pub(crate) fn swap(
     hall: &Hall<MapCargo>,
     pass: &mut Pass<MapCargo>,
@@ -116,6 +118,7 @@ pub(crate) fn swap(
 }
 
 /// Gives a key this value, and counts the keys afterwards.
+#[tactic(auto, using(map_cargo::specs::StepLaws::alike_then))]
 pub(crate) fn store_counted(
     hall: &Hall<MapCargo>,
     pass: &mut Pass<MapCargo>,

@@ -1,12 +1,13 @@
 //! Taking a cell and giving it back, as the maps see it.
 ghost use Rattle.std.specs.Prelude.{◌≡◌, ◌≢◌, ◌<◌, ℕ};
-ghost use Rattle.hall.specs.Passes.{view, IsPassOf, shape_of};
+ghost use Rattle.hall.specs.Passes.{view, IsPassOf, shape_of, cargo_of};
 ghost use Rattle.hall.specs.Views.{standing};
 ghost use Rattle.hall.specs.declared.view.Standing.TheVariants.{Away, Inline, Exclusive};
 ghost use Rattle.shared_mutex.specs.Acquiring.{ElsewhereSame};
 ghost use Rattle.query_rules.specs.Maps.{no_entries};
 ghost use Rattle.map_cargo.specs.History.{IsSettled};
 ghost use Rattle.map_cargo.specs.Steps.{Gained, Left};
+ghost use Rattle.query_cells.specs.Answers.{LeadsBack};
 
 use hall::{Hall, Pass};
 use map_cargo::MapCargo;
@@ -50,6 +51,7 @@ pub(crate) fn hold_for_writing<R: Wait>(
 }
 
 /// Gives a cell back that was held for reading.
+#[tactic(auto, using(crate::proofs::Placing::leads_once))]
 pub(crate) fn leave_reading(hall: &Hall<MapCargo>, pass: &mut Pass<MapCargo>, ptr: ReadPtr)
     requires pass { IsPassOf hall.now pass.old }
     requires cell { ptr.guard.lock < (shape_of hall.now).locks }
@@ -58,11 +60,13 @@ pub(crate) fn leave_reading(hall: &Hall<MapCargo>, pass: &mut Pass<MapCargo>, pt
     ensures away { standing (view pass.new) ptr.guard.lock ≡ Away }
     ensures elsewhere { ElsewhereSame (view pass.old) (view pass.new) ptr.guard.lock }
     ensures left { Left (view pass.old) (view pass.new) }
+    ensures back { LeadsBack (cargo_of hall.now) (view pass.old) (view pass.new) }
 {
     unlock_read(hall, pass, ptr);
 }
 
 /// Gives a cell back that was held for writing. Its words have to mean its map again.
+#[tactic(auto, using(crate::proofs::Placing::leads_once))]
 pub(crate) fn leave_writing(hall: &Hall<MapCargo>, pass: &mut Pass<MapCargo>, ptr: WritePtr)
     requires pass { IsPassOf hall.now pass.old }
     requires cell { ptr.guard.lock < (shape_of hall.now).locks }
@@ -72,6 +76,7 @@ pub(crate) fn leave_writing(hall: &Hall<MapCargo>, pass: &mut Pass<MapCargo>, pt
     ensures away { standing (view pass.new) ptr.guard.lock ≡ Away }
     ensures elsewhere { ElsewhereSame (view pass.old) (view pass.new) ptr.guard.lock }
     ensures left { Left (view pass.old) (view pass.new) }
+    ensures back { LeadsBack (cargo_of hall.now) (view pass.old) (view pass.new) }
 {
     unlock_write(hall, pass, ptr);
 }

@@ -28,7 +28,7 @@ fn refuse(
     requires idle { IsIdle (view pass.old) }
     requires may { MayRefuse (view pass.old) query.now reply }
     ensures pass { IsPassOf hall.now pass.new × IsIdle (view pass.new) }
-    ensures tells { Tells (view pass.old) (view pass.new) index query.now result }
+    ensures tells { Tells (cargo_of hall.now) (view pass.old) (view pass.new) index query.now result }
     ensures reply { result ≡ reply }
     ensures load { LoadedOnce query.now (view pass.old) (view pass.new) }
     ensures others { 1 < (shape_of hall.now).seats }
@@ -50,7 +50,7 @@ pub(crate) fn ask_try_get<R: Wait>(
     requires cell { (cell < (cargo_of hall.now).cells) × (cell < (shape_of hall.now).locks) }
     requires idle { IsIdle (view pass.old) }
     ensures pass { IsPassOf hall.now pass.new × IsIdle (view pass.new) }
-    ensures tells { Tells (view pass.old) (view pass.new) index (Query.TryGet cell key) result }
+    ensures tells { Tells (cargo_of hall.now) (view pass.old) (view pass.new) index (Query.TryGet cell key) result }
     ensures forced { IsForced (Query.TryGet cell key) result (view pass.old) (view pass.new) }
     ensures alone { (shape_of hall.now).seats ≡ 1 → is_granted result ≡ true }
     ensures late { (last : ℕ) → IsLateBy (Query.TryGet cell key) last result }
@@ -77,7 +77,7 @@ pub(crate) fn ask_try_put<R: Wait>(
     requires idle { IsIdle (view pass.old) }
     requires quota { 1 ≤ (view pass.old).quota }
     ensures pass { IsPassOf hall.now pass.new × IsIdle (view pass.new) }
-    ensures tells { Tells (view pass.old) (view pass.new) index (Query.TryPut cell key value) result }
+    ensures tells { Tells (cargo_of hall.now) (view pass.old) (view pass.new) index (Query.TryPut cell key value) result }
     ensures forced { IsForced (Query.TryPut cell key value) result (view pass.old) (view pass.new) }
     ensures alone { (shape_of hall.now).seats ≡ 1 → is_granted result ≡ true }
     ensures late { (last : ℕ) → IsLateBy (Query.TryPut cell key value) last result }
@@ -104,7 +104,7 @@ pub(crate) fn ask_get_by<R: Wait, T: Clock>(
     requires cell { (cell < (cargo_of hall.now).cells) × (cell < (shape_of hall.now).locks) }
     requires idle { IsIdle (view pass.old) }
     ensures pass { IsPassOf hall.now pass.new × IsIdle (view pass.new) }
-    ensures tells { Tells (view pass.old) (view pass.new) index (Query.GetBy cell key deadline) result }
+    ensures tells { Tells (cargo_of hall.now) (view pass.old) (view pass.new) index (Query.GetBy cell key deadline) result }
     ensures forced { IsForced (Query.GetBy cell key deadline) result (view pass.old) (view pass.new) }
     ensures alone { (shape_of hall.now).seats ≡ 1 → is_granted result ≡ true }
     ensures late { IsLateBy (Query.GetBy cell key deadline) (T.last clock.new) result }
@@ -137,7 +137,7 @@ pub(crate) fn ask_put_by<R: Wait, T: Clock>(
     requires idle { IsIdle (view pass.old) }
     requires quota { 1 ≤ (view pass.old).quota }
     ensures pass { IsPassOf hall.now pass.new × IsIdle (view pass.new) }
-    ensures tells { Tells (view pass.old) (view pass.new) index (Query.PutBy cell key value deadline) result }
+    ensures tells { Tells (cargo_of hall.now) (view pass.old) (view pass.new) index (Query.PutBy cell key value deadline) result }
     ensures forced { IsForced (Query.PutBy cell key value deadline) result (view pass.old) (view pass.new) }
     ensures alone { (shape_of hall.now).seats ≡ 1 → is_granted result ≡ true }
     ensures late { IsLateBy (Query.PutBy cell key value deadline) (T.last clock.new) result }

@@ -55,7 +55,7 @@ pub(crate) fn answer_value(
     requires rested { IsRested (view pass.old).part }
     requires asks { AsksValue query.now ptr.guard.lock key }
     ensures pass { IsPassOf hall.now pass.new × IsIdle (view pass.new) }
-    ensures tells { Tells (view pass.old) (view pass.new) index query.now result }
+    ensures tells { Tells (cargo_of hall.now) (view pass.old) (view pass.new) index query.now result }
     ensures granted { is_granted result ≡ true }
 {
     let said = look_up(hall, pass, ptr.cell(), key);
@@ -83,7 +83,7 @@ pub(crate) fn answer_put(
     requires quota { 1 ≤ (view pass.old).quota }
     requires asks { AsksPut query.now ptr.guard.lock key value }
     ensures pass { IsPassOf hall.now pass.new × IsIdle (view pass.new) }
-    ensures tells { Tells (view pass.old) (view pass.new) index query.now result }
+    ensures tells { Tells (cargo_of hall.now) (view pass.old) (view pass.new) index query.now result }
     ensures granted { is_granted result ≡ true }
 {
     let said = store(hall, pass, ptr.cell(), key, value);
@@ -104,7 +104,7 @@ pub(crate) fn ask_get<R: Wait>(
     requires cell { (cell < (cargo_of hall.now).cells) × (cell < (shape_of hall.now).locks) }
     requires idle { IsIdle (view pass.old) }
     ensures pass { IsPassOf hall.now pass.new × IsIdle (view pass.new) }
-    ensures tells { Tells (view pass.old) (view pass.new) index (Query.Get cell key) result }
+    ensures tells { Tells (cargo_of hall.now) (view pass.old) (view pass.new) index (Query.Get cell key) result }
     ensures granted { is_granted result ≡ true }
 {
     let query = Query::Get { cell, key };
@@ -125,7 +125,7 @@ pub(crate) fn ask_len<R: Wait>(
     requires cell { (cell < (cargo_of hall.now).cells) × (cell < (shape_of hall.now).locks) }
     requires idle { IsIdle (view pass.old) }
     ensures pass { IsPassOf hall.now pass.new × IsIdle (view pass.new) }
-    ensures tells { Tells (view pass.old) (view pass.new) index (Query.Len cell) result }
+    ensures tells { Tells (cargo_of hall.now) (view pass.old) (view pass.new) index (Query.Len cell) result }
     ensures granted { is_granted result ≡ true }
 {
     let query = Query::Len { cell };
@@ -150,7 +150,7 @@ pub(crate) fn ask_put<R: Wait>(
     requires idle { IsIdle (view pass.old) }
     requires quota { 1 ≤ (view pass.old).quota }
     ensures pass { IsPassOf hall.now pass.new × IsIdle (view pass.new) }
-    ensures tells { Tells (view pass.old) (view pass.new) index (Query.Put cell key value) result }
+    ensures tells { Tells (cargo_of hall.now) (view pass.old) (view pass.new) index (Query.Put cell key value) result }
     ensures granted { is_granted result ≡ true }
 {
     let query = Query::Put { cell, key, value };
@@ -173,7 +173,7 @@ pub(crate) fn ask_del<R: Wait>(
     requires idle { IsIdle (view pass.old) }
     requires quota { 1 ≤ (view pass.old).quota }
     ensures pass { IsPassOf hall.now pass.new × IsIdle (view pass.new) }
-    ensures tells { Tells (view pass.old) (view pass.new) index (Query.Del cell key) result }
+    ensures tells { Tells (cargo_of hall.now) (view pass.old) (view pass.new) index (Query.Del cell key) result }
     ensures granted { is_granted result ≡ true }
 {
     let query = Query::Del { cell, key };
@@ -198,7 +198,7 @@ pub(crate) fn ask_add<R: Wait>(
     requires idle { IsIdle (view pass.old) }
     requires quota { 1 ≤ (view pass.old).quota }
     ensures pass { IsPassOf hall.now pass.new × IsIdle (view pass.new) }
-    ensures tells { Tells (view pass.old) (view pass.new) index (Query.Add cell key delta) result }
+    ensures tells { Tells (cargo_of hall.now) (view pass.old) (view pass.new) index (Query.Add cell key delta) result }
     ensures granted { is_granted result ≡ true }
 {
     let query = Query::Add { cell, key, delta };
@@ -224,7 +224,7 @@ pub(crate) fn ask_cas<R: Wait>(
     requires idle { IsIdle (view pass.old) }
     requires quota { 1 ≤ (view pass.old).quota }
     ensures pass { IsPassOf hall.now pass.new × IsIdle (view pass.new) }
-    ensures tells { Tells (view pass.old) (view pass.new) index (Query.Cas cell key old new) result }
+    ensures tells { Tells (cargo_of hall.now) (view pass.old) (view pass.new) index (Query.Cas cell key old new) result }
     ensures granted { is_granted result ≡ true }
 {
     let query = Query::Cas {
@@ -254,7 +254,7 @@ pub(crate) fn ask_put_len<R: Wait>(
     requires idle { IsIdle (view pass.old) }
     requires quota { 1 ≤ (view pass.old).quota }
     ensures pass { IsPassOf hall.now pass.new × IsIdle (view pass.new) }
-    ensures tells { Tells (view pass.old) (view pass.new) index (Query.PutLen cell key value) result }
+    ensures tells { Tells (cargo_of hall.now) (view pass.old) (view pass.new) index (Query.PutLen cell key value) result }
     ensures granted { is_granted result ≡ true }
 {
     let query = Query::PutLen { cell, key, value };

@@ -1,5 +1,6 @@
 //! Telling a reply by a named step, while its cells are held.
 ghost use Rattle.std.specs.Prelude.{◌≡◌, ◌≢◌, ◌<◌, ◌≤◌, ◌∷◌, [], ℕ, true, false};
+ghost use Rattle.hall.specs.Cargo.{shared_mode, exclusive_mode};
 ghost use Rattle.hall.specs.Passes.{view, IsPassOf, shape_of, cargo_of};
 ghost use Rattle.hall.specs.Views.{standing};
 ghost use Rattle.hall.specs.declared.view.Standing.TheVariants.{Inline, Exclusive};
@@ -9,7 +10,8 @@ ghost use Rattle.map_cargo.specs.Entries.{named_cells, spoken_cells};
 ghost use Rattle.map_cargo.specs.History.{plain_of, IsRested};
 ghost use Rattle.map_cargo.specs.Steps.{Suits, Stays, Alike, IsIdle, MayDraw, MayPlace};
 ghost use Rattle.query_cells.specs.Asked.{entry_for, is_granted};
-ghost use Rattle.query_cells.specs.Answers.{Follows, MayTell, OnlyAt, Stored, Tells};
+ghost use Rattle.query_cells.specs.Placing.{mode_for};
+ghost use Rattle.query_cells.specs.Answers.{Follows, HoldsFor, MayTell, OnlyAt, Stored, Tells};
 
 use crate::holding::{leave_reading, leave_writing};
 use hall::{Hall, Pass};
@@ -53,9 +55,10 @@ pub(crate) fn tell_read(
     requires pass { IsPassOf hall.now pass.old }
     requires suits { Suits hall.now }
     requires may { MayPlace no_entries (cargo_of hall.now) (view pass.old) (entry_for (view pass.old).number index query.now said) }
+    requires holds { HoldsFor query.now (view pass.old) }
     requires rested { IsRested (view pass.old).part }
     ensures pass { IsPassOf hall.now pass.new × Alike (view pass.old) (view pass.new) }
-    ensures tells { Tells (view pass.old) (view pass.new) index query.now result }
+    ensures tells { Tells (cargo_of hall.now) (view pass.old) (view pass.new) index query.now result }
     ensures granted { is_granted result ≡ true }
     ensures follows { Follows (view pass.old) (view pass.new) query.now said }
 {
@@ -84,9 +87,10 @@ fn tell_write(
     requires pass { IsPassOf hall.now pass.old }
     requires suits { Suits hall.now }
     requires may { MayDraw no_entries (cargo_of hall.now) (view pass.old) (entry_for (view pass.old).number index query.now said) }
+    requires mode { mode_for query.now ≡ exclusive_mode }
     requires quota { 1 ≤ (view pass.old).quota }
     ensures pass { IsPassOf hall.now pass.new × Stays (view pass.old) (view pass.new) }
-    ensures tells { Tells (view pass.old) (view pass.new) index query.now result }
+    ensures tells { Tells (cargo_of hall.now) (view pass.old) (view pass.new) index query.now result }
     ensures granted { is_granted result ≡ true }
     ensures follows { Follows (view pass.old) (view pass.new) query.now said }
 {
@@ -107,7 +111,7 @@ fn tell_write(
 
 /// Tells what the plain maps say to a query whose cells the pass holds for writing: a write is drawn, and a read is placed.
 /// Afterwards the pass's plain maps are those that the reply leaves.
-#[tactic(auto, using(crate::proofs::Replies::may_place, crate::proofs::Replies::may_draw))]
+#[tactic(auto, using(crate::proofs::Replies::may_place, crate::proofs::Replies::may_draw, crate::proofs::Replies::may_hold, map_cargo::specs::StepLaws::stays_alike))]
 pub(crate) fn tell(
     hall: &Hall<MapCargo>,
     pass: &mut Pass<MapCargo>,
@@ -119,7 +123,7 @@ pub(crate) fn tell(
     requires suits { Suits hall.now }
     requires may { MayTell (cargo_of hall.now) (view pass.old) query.now said }
     ensures pass { IsPassOf hall.now pass.new × Stays (view pass.old) (view pass.new) }
-    ensures tells { Tells (view pass.old) (view pass.new) index query.now result }
+    ensures tells { Tells (cargo_of hall.now) (view pass.old) (view pass.new) index query.now result }
     ensures granted { is_granted result ≡ true }
     ensures follows { Follows (view pass.old) (view pass.new) query.now said }
 {
@@ -131,7 +135,7 @@ pub(crate) fn tell(
 }
 
 /// Tells what was read in the one cell that the pass holds, and gives the cell back.
-#[tactic(auto, using(crate::proofs::Replies::tells_then, crate::proofs::Replies::idle_again))]
+#[tactic(auto, using(crate::proofs::Placing::holds_read, crate::proofs::Replies::tells_then, crate::proofs::Replies::idle_again))]
 pub(crate) fn answer_read(
     hall: &Hall<MapCargo>,
     pass: &mut Pass<MapCargo>,
@@ -146,10 +150,11 @@ pub(crate) fn answer_read(
     requires held { standing (view pass.old) ptr.guard.lock ≡ Inline }
     requires only { OnlyAt ptr.guard.lock (view pass.old) }
     requires may { MayPlace no_entries (cargo_of hall.now) (view pass.old) (entry_for (view pass.old).number index query.now said) }
+    requires mode { mode_for query.now ≡ shared_mode }
     requires rested { IsRested (view pass.old).part }
     ensures pass { IsPassOf hall.now pass.new }
     ensures idle { IsIdle (view pass.new) }
-    ensures tells { Tells (view pass.old) (view pass.new) index query.now result }
+    ensures tells { Tells (cargo_of hall.now) (view pass.old) (view pass.new) index query.now result }
     ensures granted { is_granted result ≡ true }
 {
     let reply = tell_read(hall, pass, index, query, said);
@@ -177,7 +182,7 @@ pub(crate) fn answer(
     requires stored { Stored (view pass.old) ptr.guard.lock query.now said }
     ensures pass { IsPassOf hall.now pass.new }
     ensures idle { IsIdle (view pass.new) }
-    ensures tells { Tells (view pass.old) (view pass.new) index query.now result }
+    ensures tells { Tells (cargo_of hall.now) (view pass.old) (view pass.new) index query.now result }
     ensures granted { is_granted result ≡ true }
 {
     let reply = tell(hall, pass, index, query, said);

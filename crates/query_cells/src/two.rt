@@ -9,7 +9,7 @@ ghost use Rattle.map_cargo.specs.Cells.{Means};
 ghost use Rattle.map_cargo.specs.History.{words_of, plain_of, IsSettled, IsRested};
 ghost use Rattle.map_cargo.specs.Steps.{Suits, Alike, Reworded, IsIdle, Left};
 ghost use Rattle.query_cells.specs.Asked.{is_granted};
-ghost use Rattle.query_cells.specs.Answers.{ChangesWords, HoldsTwo, Leaves, Tells, TellsNothing};
+ghost use Rattle.query_cells.specs.Answers.{ChangesWords, HoldsTwo, LeadsBack, Leaves, Tells, TellsNothing};
 
 use crate::holding::{hold_for_reading, hold_for_writing, leave_reading, leave_writing};
 use crate::telling::{tell, tell_read};
@@ -77,7 +77,7 @@ fn hold_two_for_reading<R: Wait>(
 }
 
 // Gives two cells back that were held for writing.
-#[tactic(auto, using(crate::proofs::Pairs::first_stands, crate::proofs::Pairs::first_is_settled, crate::proofs::Pairs::two_left, crate::proofs::Pairs::both_left))]
+#[tactic(auto, using(crate::proofs::Pairs::first_stands, crate::proofs::Pairs::first_is_settled, crate::proofs::Pairs::two_left, crate::proofs::Pairs::both_left, crate::proofs::Placing::leads_then))]
 fn leave_two_writing(
     hall: &Hall<MapCargo>,
     pass: &mut Pass<MapCargo>,
@@ -91,13 +91,14 @@ fn leave_two_writing(
     ensures pass { IsPassOf hall.now pass.new }
     ensures idle { IsIdle (view pass.new) }
     ensures left { Left (view pass.old) (view pass.new) }
+    ensures back { LeadsBack (cargo_of hall.now) (view pass.old) (view pass.new) }
 {
     leave_writing(hall, pass, second);
     leave_writing(hall, pass, first);
 }
 
 // Gives two cells back that were held for reading.
-#[tactic(auto, using(crate::proofs::Pairs::first_stands, crate::proofs::Pairs::two_left, crate::proofs::Pairs::both_left))]
+#[tactic(auto, using(crate::proofs::Pairs::first_stands, crate::proofs::Pairs::two_left, crate::proofs::Pairs::both_left, crate::proofs::Placing::leads_then))]
 fn leave_two_reading(
     hall: &Hall<MapCargo>,
     pass: &mut Pass<MapCargo>,
@@ -111,12 +112,14 @@ fn leave_two_reading(
     ensures pass { IsPassOf hall.now pass.new }
     ensures idle { IsIdle (view pass.new) }
     ensures left { Left (view pass.old) (view pass.new) }
+    ensures back { LeadsBack (cargo_of hall.now) (view pass.old) (view pass.new) }
 {
     leave_reading(hall, pass, second);
     leave_reading(hall, pass, first);
 }
 
 // Takes an amount from what a key has in a cell; a key that isn't there stays away.
+#[tactic(auto, using(map_cargo::specs::StepLaws::alike_none))]
 fn lessen(
     hall: &Hall<MapCargo>,
     pass: &mut Pass<MapCargo>,
@@ -144,6 +147,7 @@ fn lessen(
 }
 
 // Takes an amount from a key of one cell and adds it to the key of another. The words change, and nothing is told yet.
+#[tactic(auto, using(crate::proofs::Pairs::words_read, crate::proofs::Pairs::words_put, crate::proofs::Pairs::words_then))]
 fn shift(
     hall: &Hall<MapCargo>,
     pass: &mut Pass<MapCargo>,
@@ -180,6 +184,7 @@ fn shift(
 }
 
 // What is said of a key in two cells that the pass holds.
+#[tactic(auto, using(crate::proofs::Pairs::words_read, crate::proofs::Pairs::words_then))]
 fn look_up_two(
     hall: &Hall<MapCargo>,
     pass: &mut Pass<MapCargo>,
@@ -219,7 +224,7 @@ pub(crate) fn ask_move<R: Wait>(
     requires idle { IsIdle (view pass.old) }
     requires quota { 1 ≤ (view pass.old).quota }
     ensures pass { IsPassOf hall.now pass.new × IsIdle (view pass.new) }
-    ensures tells { Tells (view pass.old) (view pass.new) index (Query.Move from to key n) result }
+    ensures tells { Tells (cargo_of hall.now) (view pass.old) (view pass.new) index (Query.Move from to key n) result }
     ensures granted { is_granted result ≡ true }
 {
     let query = Query::Move { from, to, key, n };
@@ -249,7 +254,7 @@ pub(crate) fn ask_both<R: Wait>(
     requires locks { (shape_of hall.now).locks ≡ (cargo_of hall.now).cells }
     requires idle { IsIdle (view pass.old) }
     ensures pass { IsPassOf hall.now pass.new × IsIdle (view pass.new) }
-    ensures tells { Tells (view pass.old) (view pass.new) index (Query.Both first second key) result }
+    ensures tells { Tells (cargo_of hall.now) (view pass.old) (view pass.new) index (Query.Both first second key) result }
     ensures granted { is_granted result ≡ true }
 {
     let query = Query::Both { first, second, key };

@@ -3,6 +3,7 @@ use Rattle.hall.specs.Passes.{view, cargo_of}
 use Rattle.map_cargo.specs.Cells.{key_at}
 use Rattle.map_cargo.specs.declared.entry.Part.{Part}
 use Rattle.map_cargo.specs.History.{words_of}
+use Rattle.map_cargo.specs.StepLaws.{alike_then}
 use Rattle.map_cargo.specs.Steps.{rewrote}
 use Rattle.map_cargo.proofs.Meaning.{at_some, at_none, del_old, found_none}
 use Rattle.map_cargo.proofs.cells.del.Goals as goal
@@ -28,3 +29,9 @@ returns-in-None-default-clause-del c =
     let W : List ℕ = words_of (view c.args.pass.now).part c.args.cell in let X : Type 0 = (r : ℕ) → r < c.find.result.1 → key_at W r ≡ c.args.key → ⊥ in let Y : ℕ → Type 0 = λ r. (r < c.find.result.1) × (key_at W r ≡ c.args.key) in
     let none = at_none X Y c.find.result.0 c.in-None-default.is-0 c.find.ensures.row in
     λ m h. (found_none W m c.args.key h (λ r low. none r (let count = c.find.ensures.count in let a = count.0 in omega (arith, h.count))), c.find.ensures.part)
+
+pub returns-in-Some-default-clause-pass : goal.returns-in-Some-default-clause-pass
+returns-in-Some-default-clause-pass c =
+    let seen = alike_then _ _ _ (alike_then _ _ _ (alike_then _ _ _ c.find.ensures.pass.1 c.word-before.ensures.pass.1) c.word-last_key.ensures.pass.1) c.word-last_value.ensures.pass.1 in
+    let e1 = c.set_word.ensures in let e2 = c.set_word-in-Some-default.ensures in let e3 = c.set_word-in-Some-default-2.ensures in let e4 = c.set_word-in-Some-default-3.ensures in
+    (e4.pass.0, alike_then _ _ _ (alike_then _ _ _ (alike_then _ _ _ (alike_then _ _ _ seen e1.pass.1) e2.pass.1) e3.pass.1) e4.pass.1)

@@ -3,6 +3,7 @@ use Rattle.hall.specs.Passes.{view}
 use Rattle.map_cargo.specs.Cells.{key_at}
 use Rattle.map_cargo.specs.declared.entry.Part.{Part}
 use Rattle.map_cargo.specs.History.{words_of}
+use Rattle.map_cargo.specs.StepLaws.{alike_then}
 use Rattle.map_cargo.specs.Steps.{rewrote}
 use Rattle.map_cargo.proofs.Meaning.{at_some, at_none, put_old, put_new}
 use Rattle.map_cargo.proofs.cells.put.Goals as goal
@@ -22,3 +23,12 @@ returns-else-count-rows-clause-put c =
     let k : ℕ = c.args.cell in
     put_new _ _ k c.args.key c.args.value n _ (e4.part ∙ ap (λ (z : Part). rewrote z k 0 (n + 1)) (e3.part ∙ ap (λ (z : Part). rewrote z k (3 * n + 3) c.args.value) (e2.part ∙ ap (λ (z : Part). rewrote z k (3 * n + 2) c.args.key) (e1.part ∙ ap (λ (z : Part). rewrote z k (3 * n + 1) 1) c.find.ensures.part))))
     c.find.ensures.count.0 none (let x = c.find.ensures.count in let x0 = x.0 in let x1 = x.1 in let ne = c.if-count-rows.false in let is = c.cargo.ensures in search rules) c.find.ensures.length
+
+pub returns-in-Some-default-clause-pass : goal.returns-in-Some-default-clause-pass
+returns-in-Some-default-clause-pass c =
+    (c.set_word.ensures.pass.0, alike_then _ _ _ (alike_then _ _ _ c.find.ensures.pass.1 c.word-before.ensures.pass.1) c.set_word.ensures.pass.1)
+
+pub returns-else-count-rows-clause-pass : goal.returns-else-count-rows-clause-pass
+returns-else-count-rows-clause-pass c =
+    let e1 = c.set_word-in-None-default.ensures in let e2 = c.set_word-in-None-default-2.ensures in let e3 = c.set_word-in-None-default-3.ensures in let e4 = c.set_word-in-None-default-4.ensures in
+    (e4.pass.0, alike_then _ _ _ (alike_then _ _ _ (alike_then _ _ _ (alike_then _ _ _ c.find.ensures.pass.1 e1.pass.1) e2.pass.1) e3.pass.1) e4.pass.1)

@@ -1,9 +1,17 @@
-use Rattle.std.proofs.Common.{◌∙◌, rules}
+use Rattle.std.proofs.Common.{true, ◌∙◌, rules}
 use Rattle.std.proofs.Math.ListN.{get_or-map}
+use Rattle.hall.specs.Passes.{view}
 use Rattle.hall.specs.Views.{mode_of}
 use Rattle.hall.specs.declared.view.Standing.TheVariants.{Away}
 use Rattle.map_cargo.proofs.Drawing.{draws}
+use Rattle.hall.specs.declared.view.Kind.TheVariants.{AddCargo}
+use Rattle.map_cargo.specs.StepLaws.{noted_stays}
 use Rattle.map_cargo.proofs.history.draw_by.Goals as goal
 
 pub add_cargo-requires-clause-note : goal.add_cargo-requires-clause-note
 add_cargo-requires-clause-note g c κs within = let may = c.requires.may in draws _ _ _ _ _ c.args.entry.now _ _ (search rules) c.requires.entry.0 c.requires.entry.1 c.requires.quota may.near (λ cell has. get_or-map mode_of _ cell Away ∙ may.holds cell has) may.said may.writes may.rested
+
+pub returns-clause-pass : goal.returns-clause-pass
+returns-clause-pass g c =
+    let step = c.add_cargo.ensures.step in
+    (c.add_cargo.ensures.pass.0, noted_stays (view c.args.pass.now) (view c.add_cargo.new.pass) AddCargo _ c.add_cargo.result 1 true step.0 step.2)

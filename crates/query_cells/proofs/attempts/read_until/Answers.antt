@@ -1,18 +1,20 @@
+use Rattle.hall.specs.declared.view.Kind.TheVariants as kinds
 use Rattle.hall.specs.Passes.{view}
+use Rattle.hall.specs.Views.{after_look}
 use Rattle.sync_cell.specs.Refused.{reader_late}
 use Rattle.query_rules.specs.Maps.{no_entries}
-use Rattle.map_cargo.specs.Gaining.{gained_by, gained_from}
-use Rattle.query_cells.proofs.Taking.{late_reads}
+use Rattle.map_cargo.specs.Gaining.{gained_by}
+use Rattle.query_cells.proofs.Taking.{gained_later, late_reads, unchanged_look, unchanged_once, unchanged_then}
 use Rattle.query_cells.proofs.attempts.read_until.Goals as goal
 
 pub returns-in-Ok-clause-taken : goal.returns-in-Ok-clause-taken
 returns-in-Ok-clause-taken g c =
-    let e = c.in-Ok.ensures in let s = e.step.1 in let looked = s.2 in (
+    let e = c.in-Ok.ensures in let s = e.step.1 in let v = view c.args.pass.now in let u = after_look s.0 kinds.Load c.args.cell s.3.0 in (
       e.cell,
       record {
         stands = e.stands;
         elsewhere = e.elsewhere;
-        gained = gained_from no_entries c.args.cell _ _ _ looked.part looked.number looked.quota looked.span looked.taken (gained_by no_entries _ _ _ _ _ _ s.3.2.0);
+        gained = gained_later c.args.cell v u (view c.rlock_until.new.pass) (unchanged_then v s.0 u (unchanged_look v s.0 c.args.cell s.2) (unchanged_once s.0 kinds.Load c.args.cell s.3.0)) (gained_by no_entries _ _ _ _ _ _ s.3.2.0);
       },
     )
 

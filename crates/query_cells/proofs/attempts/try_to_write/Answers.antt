@@ -3,7 +3,7 @@ use Rattle.hall.specs.Passes.{view}
 use Rattle.shared_mutex.specs.Refused.{exclusive_refused}
 use Rattle.query_rules.specs.Maps.{no_entries}
 use Rattle.map_cargo.specs.Gaining.{gained_by}
-use Rattle.query_cells.proofs.Taking.{announced, busy_writes, gained_later, unchanged_then, writer_unchanged}
+use Rattle.query_cells.proofs.Taking.{announced, busy_writes, gained_later, turned_away, unchanged_then, writer_unchanged}
 use Rattle.query_cells.proofs.attempts.try_to_write.Goals as goal
 
 pub returns-in-Ok-clause-taken : goal.returns-in-Ok-clause-taken
@@ -21,6 +21,11 @@ pub returns-in-Err-Busy-clause-busy : goal.returns-in-Err-Busy-clause-busy
 returns-in-Err-Busy-clause-busy g c =
     let e = c.in-Err-Busy in let u = view c.loop.pass in let w = view c.try_wlock.new.pass in
     busy_writes (view c.args.pass.now) u w c.args.cell e.field-0 _ e.field-0-is c.loop.invariant.quiet (exclusive_refused _ u c.args.cell w e.field-0 c.loop.invariant.away e.ensures.step)
+
+pub returns-in-Err-Busy-clause-taken : goal.returns-in-Err-Busy-clause-taken
+returns-in-Err-Busy-clause-taken g c =
+    let e = c.in-Err-Busy in let so_far = c.loop.invariant in let v = view c.args.pass.now in let u = view c.loop.pass in let w = view c.try_wlock.new.pass in
+    turned_away v u w c.args.cell so_far.quiet (writer_unchanged _ u c.args.cell w e.field-0 e.ensures.step) so_far.elsewhere e.ensures.elsewhere e.ensures.stands
 
 pub loop-preserved : goal.loop-preserved
 loop-preserved g c =

@@ -1,9 +1,10 @@
 use Rattle.std.proofs.Common.{refl, sym, ap, ◌∙◌}
 use Rattle.hall.specs.declared.view.Shape.{Shape}
-use Rattle.hall.specs.Passes.{view}
 use Rattle.query_rules.specs.declared.query.Query.TheVariants.{PutBy}
 use Rattle.query_rules.specs.declared.query.Reply.TheVariants.{Late}
 use Rattle.query_cells.proofs.Refusing.{is_forced, may_refuse}
+use Rattle.hall.specs.Passes.{view, cargo_of}
+use Rattle.query_cells.proofs.Replies.{nothing_gained, tells_after}
 use Rattle.query_cells.proofs.refusable.ask_put_by.Goals as goal
 
 pub refuse-requires-clause-may : goal.refuse-requires-clause-may
@@ -15,3 +16,13 @@ pub returns-in-Err-clause-forced : goal.returns-in-Err-clause-forced
 returns-in-Err-clause-forced g c =
     let v = view c.args.pass.now in let u = view c.write_until.new.pass in let e = c.in-Err.ensures in
     is_forced v u (view c.refuse.new.pass) (PutBy c.args.cell c.args.key c.args.value c.args.deadline) (Late c.in-Err.now) c.refuse.result c.refuse.ensures.reply (e.reads.0, e.reads.1, (e.late.0, e.reads.2)) c.refuse.ensures.load
+
+pub returns-in-Ok-clause-tells : goal.returns-in-Ok-clause-tells
+returns-in-Ok-clause-tells g c =
+    let v = view c.args.pass.now in let u = view c.write_until.new.pass in
+    tells_after (cargo_of c.args.hall.now) v u (view c.answer_put.new.pass) c.args.index _ c.answer_put.result (nothing_gained c.args.cell v u c.in-Ok.ensures.taken.1.gained) c.answer_put.ensures.tells
+
+pub returns-in-Err-clause-tells : goal.returns-in-Err-clause-tells
+returns-in-Err-clause-tells g c =
+    let v = view c.args.pass.now in let u = view c.write_until.new.pass in
+    tells_after (cargo_of c.args.hall.now) v u (view c.refuse.new.pass) c.args.index _ c.refuse.result c.in-Err.ensures.taken.nothing c.refuse.ensures.tells

@@ -1,9 +1,10 @@
 use Rattle.std.proofs.Common.{refl, sym, ap, ◌∙◌}
 use Rattle.hall.specs.declared.view.Shape.{Shape}
-use Rattle.hall.specs.Passes.{view}
 use Rattle.query_rules.specs.declared.query.Query.TheVariants.{TryPut}
 use Rattle.query_rules.specs.declared.query.Reply.TheVariants.{Busy}
 use Rattle.query_cells.proofs.Refusing.{is_forced, may_refuse}
+use Rattle.hall.specs.Passes.{view, cargo_of}
+use Rattle.query_cells.proofs.Replies.{nothing_gained, tells_after}
 use Rattle.query_cells.proofs.refusable.ask_try_put.Goals as goal
 
 pub refuse-requires-clause-may : goal.refuse-requires-clause-may
@@ -15,3 +16,13 @@ pub returns-in-None-clause-forced : goal.returns-in-None-clause-forced
 returns-in-None-clause-forced g c =
     let v = view c.args.pass.now in let u = view c.try_to_write.new.pass in
     is_forced v u (view c.refuse.new.pass) (TryPut c.args.cell c.args.key c.args.value) Busy c.refuse.result c.refuse.ensures.reply c.in-None.ensures.busy c.refuse.ensures.load
+
+pub returns-in-Some-clause-tells : goal.returns-in-Some-clause-tells
+returns-in-Some-clause-tells g c =
+    let v = view c.args.pass.now in let u = view c.try_to_write.new.pass in
+    tells_after (cargo_of c.args.hall.now) v u (view c.answer_put.new.pass) c.args.index _ c.answer_put.result (nothing_gained c.args.cell v u c.in-Some.ensures.taken.1.gained) c.answer_put.ensures.tells
+
+pub returns-in-None-clause-tells : goal.returns-in-None-clause-tells
+returns-in-None-clause-tells g c =
+    let v = view c.args.pass.now in let u = view c.try_to_write.new.pass in
+    tells_after (cargo_of c.args.hall.now) v u (view c.refuse.new.pass) c.args.index _ c.refuse.result c.in-None.ensures.taken.nothing c.refuse.ensures.tells

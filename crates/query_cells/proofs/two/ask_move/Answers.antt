@@ -1,7 +1,8 @@
-use Rattle.hall.specs.Passes.{view}
+use Rattle.hall.specs.Passes.{view, cargo_of}
 use Rattle.hall.specs.declared.view.Standing.TheVariants.{Exclusive}
 use Rattle.query_rules.specs.declared.query.Query.TheVariants as query
-use Rattle.query_cells.proofs.Pairs.{back_order, either_order, named_so, two_told}
+use Rattle.query_cells.proofs.Pairs.{back_order, either_order, named_so, two_told, words_tell_nothing}
+use Rattle.query_cells.proofs.Replies.{nothing_then, tells_after, tells_then}
 use Rattle.query_cells.proofs.two.ask_move.Goals as goal
 
 pub leave_two_writing-requires-clause-held : goal.leave_two_writing-requires-clause-held
@@ -10,3 +11,8 @@ leave_two_writing-requires-clause-held g c =
     let two = either_order _ _ _ c.args.from c.args.to Exclusive order hold.held in
     let after = two_told (view c.hold_two_for_writing.new.pass) (view c.shift-said.new.pass) (view c.tell-reply.new.pass) c.args.from c.args.to (query.Move c.args.from c.args.to c.args.key c.args.n) c.shift-said.result two said.words told.pass.1 told.follows said.from said.to in
     named_so _ _ _ _ _ Exclusive hold.cells.0 hold.cells.1 (back_order _ _ _ c.args.from c.args.to Exclusive order after)
+
+pub returns-clause-tells : goal.returns-clause-tells
+returns-clause-tells g c =
+    let m = cargo_of c.args.hall.now in let v = view c.args.pass.now in let a = view c.hold_two_for_writing.new.pass in let u = view c.shift-said.new.pass in let t = view c.tell-reply.new.pass in let w = view c.leave_two_writing.new.pass in
+    tells_after m v u w c.args.index _ c.tell-reply.result (nothing_then v a u c.hold_two_for_writing.ensures.nothing (words_tell_nothing a u c.shift-said.ensures.words)) (tells_then m u t w c.args.index _ c.tell-reply.result c.tell-reply.ensures.tells c.leave_two_writing.ensures.left c.leave_two_writing.ensures.back)

@@ -1,0 +1,14 @@
+use Rattle.std.proofs.Common.{◌<◌, ap, subst, sym, true}
+use Rattle.hall.specs.declared.view.Kind.TheVariants.{Release}
+use Rattle.hall.specs.declared.view.Shape.{Shape}
+use Rattle.hall.specs.declared.view.View.{View}
+use Rattle.hall.specs.Passes.{view, cargo_of}
+use Rattle.map_cargo.specs.declared.entry.Part.{Part}
+use Rattle.query_cells.proofs.Placing.{leads_once}
+use Rattle.query_cells.proofs.holding.leave_writing.Goals as goal
+
+pub returns-clause-back : goal.returns-clause-back
+returns-clause-back c =
+    let lock = c.args.ptr.guard.lock in let step = c.unlock_write.ensures.step in let is = step.1 in
+    leads_once (cargo_of c.args.hall.now) (view c.args.pass.now) (view c.unlock_write.new.pass) Release lock 8 true (subst (λ (s : Shape). lock < s.locks) (sym c.requires.pass.1) c.requires.cell)
+    (ap (λ (z : View Part). z.shape) is) c.unlock_write.ensures.elsewhere (ap (λ (z : View Part). z.steps) is)

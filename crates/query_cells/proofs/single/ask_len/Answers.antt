@@ -1,0 +1,9 @@
+use Rattle.hall.specs.Passes.{view, cargo_of}
+use Rattle.query_cells.proofs.Cells.{nothing_read}
+use Rattle.query_cells.proofs.Replies.{nothing_gained, nothing_then, tells_after}
+use Rattle.query_cells.proofs.single.ask_len.Goals as goal
+
+pub returns-clause-tells : goal.returns-clause-tells
+returns-clause-tells g c =
+    let v = view c.args.pass.now in let a = view c.hold_for_reading-ptr.new.pass in let u = view c.len.new.pass in
+    tells_after (cargo_of c.args.hall.now) v u (view c.answer_read.new.pass) c.args.index _ c.answer_read.result (nothing_then v a u (nothing_gained c.args.cell v a c.hold_for_reading-ptr.ensures.gained) (nothing_read a u c.len.ensures.pass.1 c.len.ensures.part)) c.answer_read.ensures.tells

@@ -1,0 +1,71 @@
+-- Under which mode a reply was placed, read off the steps of the call that placed it.
+use Rattle.std.specs.Prelude.{◌≡◌, ◌≢◌, ℕ, ◌+◌, ◌<◌, cond, eqb, List, [], ◌∷◌, ◌++◌, All, Option, None}
+use Rattle.lock_model.specs.Locks.{Has}
+use Rattle.lock_model.specs.declared.model.Mode.{Mode}
+use Rattle.hall.specs.declared.view.View.{View}
+use Rattle.hall.specs.declared.view.Kind.TheVariants.{LoadCargo, AddCargo}
+use Rattle.hall.specs.declared.view.StepEntry.{StepEntry}
+use Rattle.hall.specs.declared.view.Standing.{Standing}
+use Rattle.hall.specs.Cargo.{shared_mode, exclusive_mode}
+use Rattle.hall.specs.Views.{standing, mode_of}
+use Rattle.hall.specs.Views as views
+use Rattle.query_rules.specs.declared.query.Query.{Query}
+use Rattle.query_rules.specs.declared.query.Query.TheVariants.{Get, Len, Put, Del, Add, Cas, PutLen, Move, Both, TryGet, TryPut, GetBy, PutBy, Give, Take, Audit}
+use Rattle.query_rules.specs.declared.query.Said.{Said}
+use Rattle.query_rules.specs.declared.query.Reply.{Reply}
+use Rattle.query_rules.specs.declared.query.Reply.TheVariants.{Placed, Busy, Late, Job}
+use Rattle.query_rules.specs.Maps.{is_write}
+use Rattle.query_rules.specs.History.{place_of}
+use Rattle.map_cargo.specs.declared.size.MapCargo.{MapCargo}
+use Rattle.map_cargo.specs.declared.entry.Part.{Part}
+use Rattle.map_cargo.specs.Cells.{number_place}
+use Rattle.map_cargo.specs.Entries.{spoken_cells}
+use Rattle.map_cargo.specs.Steps.{MoreSteps}
+
+-- the mode in which a query holds each cell that its reply speaks of; a query of the ledger holds none
+abbrev pub mode_for : Query → Option Mode
+mode_for (Get cell key) = shared_mode
+mode_for (Len cell) = shared_mode
+mode_for (Put cell key value) = exclusive_mode
+mode_for (Del cell key) = exclusive_mode
+mode_for (Add cell key delta) = exclusive_mode
+mode_for (Cas cell key old new) = exclusive_mode
+mode_for (PutLen cell key value) = exclusive_mode
+mode_for (Move a b key n) = exclusive_mode
+mode_for (Both a b key) = shared_mode
+mode_for (TryGet cell key) = shared_mode
+mode_for (TryPut cell key value) = exclusive_mode
+mode_for (GetBy cell key deadline) = shared_mode
+mode_for (PutBy cell key value deadline) = exclusive_mode
+mode_for (Give key n) = None
+mode_for (Take key n) = None
+mode_for Audit = None
+
+-- The standing at a word of the table before these steps, the newest first, where it is `now` after them: each step on the word tells the standing before it
+abbrev pub stood_at : ℕ → List StepEntry → Standing → Standing
+stood_at place [] now = now
+stood_at place (e ∷ older) now = stood_at place older (cond (eqb e.place place) e.before now)
+
+-- where the hall's table has the number word
+abbrev pub number_word : MapCargo → View Part → ℕ
+number_word c v = v.shape.slots + v.shape.locks + number_place c
+
+-- The call that led from v to w placed a reply: its step on the number word, which is the pass's last on it, drew the write's number or loaded how many writes there were; and at that step the pass held each cell that the reply speaks of in the query's mode
+pub record PlacedUnder (c : MapCargo) (v w : View Part) (q : Query) (place : ℕ) (said : Said) : Type 0 where
+  pub newer : List StepEntry
+  pub step : StepEntry
+  pub older : List StepEntry
+  pub stand : w.steps ≡ newer ++ (step ∷ (older ++ v.steps))
+  pub number : step.number ≡ v.number
+  pub kind : step.kind ≡ cond (is_write said) AddCargo LoadCargo
+  pub at : step.place ≡ number_word c w
+  pub tells : place ≡ place_of step.word said
+  pub last : All (λ (e : StepEntry). e.place ≢ number_word c w) newer
+  pub held : (cell : ℕ) → Has (spoken_cells q) cell → mode_of (stood_at (views.place_of w cell) newer (standing w cell)) ≡ mode_for q
+
+-- which step placed a reply, and under which mode; a refused one and a job's were placed by none
+abbrev pub IsPlacedUnder : MapCargo → View Part → View Part → Query → Reply → Type 0
+IsPlacedUnder c v w q (Placed place said) = PlacedUnder c v w q place said
+IsPlacedUnder c v w q Busy = MoreSteps v w
+IsPlacedUnder c v w q (Late now) = MoreSteps v w
+IsPlacedUnder c v w q (Job at result) = w.steps ≡ v.steps
