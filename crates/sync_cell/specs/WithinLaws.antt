@@ -1,21 +1,38 @@
 -- What a pass knows of the maps after it took a cell.
-use Rattle.std.specs.Prelude.{ℕ, List}
-use Rattle.std.proofs.Common.{ap, ◌∙◌}
+use Rattle.std.specs.Prelude.{ℕ, false, true, List}
+use Rattle.std.proofs.Common.{ap, refl, ◌∙◌}
 use Rattle.hall.specs.declared.guards.TryFault.{TryFault}
 use Rattle.hall.specs.declared.view.View.{View}
 use Rattle.hall.specs.declared.view.Kind.TheVariants as kinds
 use Rattle.hall.specs.declared.view.Standing.TheVariants.{Inline, Exclusive}
+use Rattle.hall.specs.Views.{after_look, entry_of}
 use Rattle.query_rules.specs.Maps.{no_entries}
 use Rattle.map_cargo.specs.declared.entry.Part.{Part}
 use Rattle.map_cargo.specs.Gaining.{gained_by, gained_from}
-use Rattle.map_cargo.specs.Steps.{Gained}
+use Rattle.map_cargo.specs.StepLaws.{more_one, more_then}
+use Rattle.map_cargo.specs.Steps.{Gained, MoreSteps}
 use Rattle.sync_cell.specs.Cells.{maps}
-use Rattle.sync_cell.specs.Tries.{EntersAtLast, WritesAtLast}
+use Rattle.sync_cell.specs.Tries.{AnnouncesAtLast, EntersAtLast, OnlyLooked, WritesAtLast}
+
+-- looks only add steps
+looked_more : (v w : View Part) (lock : ℕ) → OnlyLooked v lock w → MoreSteps v w
+looked_more v w lock looked = record { added = looked.steps.0; stand = looked.steps.1 }
+
+load_more : (v : View Part) (lock word : ℕ) → MoreSteps v (after_look v kinds.Load lock word)
+load_more v lock word = more_one v (after_look v kinds.Load lock word) (entry_of v kinds.Load lock word false) refl
+
+-- and so does a writer that is announced at last
+announced_more : (v : View Part) (cell : ℕ) (faults : List TryFault) (a : View Part) → AnnouncesAtLast maps v cell faults a → MoreSteps v a
+announced_more v cell faults a s =
+    let u : View Part = s.0 in let seen : ℕ = s.3.0 in let look : View Part = after_look u kinds.Load cell seen in
+    more_then v u a (looked_more v u cell s.2)
+    (more_then u look a (load_more u cell seen) (more_one look a (entry_of look kinds.Announce cell seen true) (ap (λ (z : View Part). z.steps) s.3.2.0)))
 
 -- its words mean its map, and all else that the pass knew stays
 pub gained_to_read : (v : View Part) (cell : ℕ) (faults : List TryFault) (w : View Part) → EntersAtLast maps v cell faults w → Gained no_entries cell v w
-gained_to_read v cell faults w s = let looked = s.2 in
-    gained_from no_entries cell _ v w looked.part looked.number looked.quota looked.span looked.taken (gained_by no_entries kinds.Enter Inline _ cell s.3.0 w s.3.2.0)
+gained_to_read v cell faults w s =
+    let u : View Part = s.0 in let looked = s.2 in let look : View Part = after_look u kinds.Load cell s.3.0 in
+    gained_from no_entries cell look v w looked.part looked.number looked.quota looked.span looked.taken (more_then v u look (looked_more v u cell looked) (load_more u cell s.3.0)) (gained_by no_entries kinds.Enter Inline _ cell s.3.0 w s.3.2.0)
 
 pub gained_to_write : (v : View Part) (cell : ℕ) (faults misses : List TryFault) (w : View Part) → WritesAtLast maps v cell faults misses w → Gained no_entries cell v w
 gained_to_write v cell faults misses w s =
@@ -26,4 +43,5 @@ gained_to_write v cell faults misses w s =
     (last.2.quota ∙ ap (λ (z : View Part). z.quota) is ∙ first.2.quota)
     (last.2.span ∙ ap (λ (z : View Part). z.span) is ∙ first.2.span)
     (last.2.taken ∙ ap (λ (z : View Part). z.taken) is ∙ first.2.taken)
+    (more_then v s.0 last.0 (announced_more v cell faults s.0 first) (looked_more s.0 last.0 cell last.2))
     (gained_by no_entries kinds.Hold Exclusive last.0 cell 4 w last.3.0)
