@@ -1,13 +1,12 @@
 -- The rule of parcels is kept by each step of a chain.
 use Rattle.std.specs.Prelude.{◌≡◌, ℕ, ◌+◌, ◌≤◌, ◌<◌, Result, List, [], ◌∷◌, ◌++◌, length}
 use Rattle.std.proofs.Common.{set, arith, refl, sym, ap, ◌∙◌, subst, ⊎_elim}
-use Rattle.std.proofs.lemmas.List.{map-append}
 use mathlib.Core.Option.{some, none, some-injective, some-ne-none, Option as Maybe}
 use lib.ListN.{get_elem?}
 use Rattle.atomic_table.proofs.Lists.{set_else}
 use Rattle.view_sums.specs.Sums.{total, total-set, total-append}
 use Rattle.waiter_chain.specs.declared.view.Opening.{Opening}
-use Rattle.waiter_chain.specs.Goods.{Goods, Part, part, opened, Runs, Pays, Posts, Ends, Serves, Collects, Cuts, Merges, answers_of}
+use Rattle.waiter_chain.specs.Goods.{Goods, Part, part, opened, Runs, Pays, Posts, Ends, Serves, Collects, Cuts, Merges}
 use Rattle.combine_job.specs.declared.parcel.Kept.{Kept}
 use Rattle.combine_job.specs.declared.parcel.Parcel.{Parcel}
 use Rattle.combine_job.specs.declared.parcel.Parcel.TheVariants.{Value, Posted, Answered}
@@ -18,9 +17,6 @@ module _ {P : Type 0} (relates : P → P → P → P → Type 0) where
   pub runs-append : (xs ys : List (P × P)) (v u w : P) → Runs relates v xs u → Runs relates u ys w → Runs relates v (xs ++ ys) w
   runs-append [] ys v u w r t = subst (λ (z : P). Runs relates z ys w) (sym r) t
   runs-append (x ∷ xs) ys v u w r t = (r.0, r.1, runs-append xs ys r.0 u w r.2 t)
-
-pub answers-append : {P : Type 0} (w : P → ℕ) (xs ys : List (P × P)) → total w (answers_of (xs ++ ys)) ≡ total w (answers_of xs) + total w (answers_of ys)
-answers-append w xs ys = ap (total w) (map-append (λ x. x.1) xs ys) ∙ total-append w (answers_of xs) (answers_of ys)
 
 module _ {V J O X : Type 0} where
   value_of : Kept V → Parcel V J O X → Kept V
@@ -64,6 +60,7 @@ module _ {V J O X : Type 0} (rooms : V → ℕ) (means : V → J → Result O X 
     runs = refl;
     answers = λ w. omega (arith, below-nothing (weight w) o.nodes refl);
     jobs = λ n x e. absurd (some-ne-none x (sym e));
+    told = λ n x e. absurd (some-ne-none x (sym e));
     room = omega (arith, a.3, below-nothing {P = Parcel V J O X} one o.nodes refl);
     paid = omega (arith, a.2, below-nothing {P = Parcel V J O X} one o.nodes refl);
     small = small;
@@ -80,6 +77,7 @@ module _ {V J O X : Type 0} (rooms : V → ℕ) (means : V → J → Result O X 
     runs = r.runs;
     answers = λ w. omega (arith, r.answers w, total-set (λ (x : Part (Parcel V J O X)). total w x.own) g.parts i (part (q + 1) xs) now me);
     jobs = λ m x e. ⊎_elim (λ (t : (m ≡ n) × (some job ≡ some x)). subst (IsJob is_ready) (some-injective job x t.1) good) (λ t. r.jobs m x t) (put_some g.posted n m (some job) x e);
+    told = r.told;
     room = omega (arith, r.room, below-put one g.posted n o.nodes (some job) low, ap one empty, total-set (λ (x : Part (Parcel V J O X)). x.quota) g.parts i (part (q + 1) xs) now me);
     paid = omega (arith, r.paid, below-put one g.posted n o.nodes (some job) low, ap one empty, total-set (λ (x : Part (Parcel V J O X)). x.quota) g.parts i (part (q + 1) xs) now me);
     small = r.small;
@@ -87,7 +85,7 @@ module _ {V J O X : Type 0} (rooms : V → ℕ) (means : V → J → Result O X 
 
   pub ends : (o : Opening (Parcel V J O X)) → Ends (Rule o) o.nodes (Related rooms means)
   ends o g i n before after xs ran w r low me runs pays unanswered =
-      let l = runs_lead rooms means ran g.value w r.now r.is runs in let now = part after (xs ++ answers_of ran) in let paid-for = cost (g.posted n) ran before after pays in record {
+      let l = runs_lead rooms means ran g.value w r.now r.is runs in let now = part after (xs ++ ran) in let paid-for = cost (g.posted n) ran before after pays in record {
         first = r.first;
         now = l.0;
         history = r.history ++ ran;
@@ -95,8 +93,9 @@ module _ {V J O X : Type 0} (rooms : V → ℕ) (means : V → J → Result O X 
         none_ran = r.none_ran;
         is = l.1;
         runs = runs-append (Related rooms means) r.history ran o.first.value g.value w r.runs runs;
-        answers = λ h. omega (arith, r.answers h, total-set (λ (x : Part (Parcel V J O X)). total h x.own) g.parts i (part before xs) now me, total-append h xs (answers_of ran), answers-append h r.history ran);
+        answers = λ h. omega (arith, r.answers h, total-set (λ (x : Part (Parcel V J O X)). total h x.own) g.parts i (part before xs) now me, total-append h xs ran, total-append h r.history ran);
         jobs = λ m x e. ⊎_elim (λ (t : (m ≡ n) × (none ≡ some x)). absurd (some-ne-none x (sym t.1))) (λ t. r.jobs m x t) (put_some g.posted n m none x e);
+        told = r.told;
         room = omega (arith, r.room, l.2, paid-for, below-put one g.posted n o.nodes none low, total-set (λ (x : Part (Parcel V J O X)). x.quota) g.parts i (part before xs) now me);
         paid = omega (arith, r.paid, l.3, paid-for, below-put one g.posted n o.nodes none low, total-set (λ (x : Part (Parcel V J O X)). x.quota) g.parts i (part before xs) now me);
         small = r.small;
@@ -112,15 +111,16 @@ module _ {V J O X : Type 0} (rooms : V → ℕ) (means : V → J → Result O X 
         none_ran = r.none_ran;
         is = l.1;
         runs = runs-append (Related rooms means) r.history ran o.first.value g.value w r.runs runs;
-        answers = λ h. omega (arith, r.answers h, answers-append h r.history ran, below-put (weight h) g.answered n o.nodes (some answer) low, ap (weight h) unanswered);
+        answers = λ h. omega (arith, r.answers h, total-append h r.history ran, below-put (weight h) g.answered n o.nodes (some (job, answer)) low, ap (weight h) unanswered);
         jobs = λ m x e. ⊎_elim (λ (t : (m ≡ n) × (none ≡ some x)). absurd (some-ne-none x (sym t.1))) (λ t. r.jobs m x t) (put_some g.posted n m none x e);
+        told = λ m x e. ⊎_elim (λ (t : (m ≡ n) × (some (job, answer) ≡ some x)). (related.3, sym (ap (λ (y : Parcel V J O X × Parcel V J O X). y.1) (some-injective (job, answer) x t.1)) ∙ related.7)) (λ t. r.told m x t) (put_some g.answered n m (some (job, answer)) x e);
         room = omega (arith, r.room, l.2, below-put one g.posted n o.nodes none low, ap one filled);
         paid = omega (arith, r.paid, l.3, below-put one g.posted n o.nodes none low, ap one filled);
         small = r.small;
       }
 
   pub collects : (o : Opening (Parcel V J O X)) → Collects (Rule o) o.nodes
-  collects o g i q n xs answer r low me filled = let now = part q (xs ++ answer ∷ []) in record {
+  collects o g i q n xs job answer r low me filled = let now = part q (xs ++ (job, answer) ∷ []) in record {
     first = r.first;
     now = r.now;
     history = r.history;
@@ -128,8 +128,9 @@ module _ {V J O X : Type 0} (rooms : V → ℕ) (means : V → J → Result O X 
     none_ran = r.none_ran;
     is = r.is;
     runs = r.runs;
-    answers = λ w. omega (arith, r.answers w, total-set (λ (x : Part (Parcel V J O X)). total w x.own) g.parts i (part q xs) now me, total-append w xs (answer ∷ []), below-put (weight w) g.answered n o.nodes none low, ap (weight w) filled);
+    answers = λ w. omega (arith, r.answers w, total-set (λ (x : Part (Parcel V J O X)). total w x.own) g.parts i (part q xs) now me, total-append w xs ((job, answer) ∷ []), below-put (weight w) g.answered n o.nodes none low, ap (weight w) filled);
     jobs = r.jobs;
+    told = λ m x e. ⊎_elim (λ (t : (m ≡ n) × (none ≡ some x)). absurd (some-ne-none x (sym t.1))) (λ t. r.told m x t) (put_some g.answered n m none x e);
     room = omega (arith, r.room, total-set (λ (x : Part (Parcel V J O X)). x.quota) g.parts i (part q xs) now me);
     paid = omega (arith, r.paid, total-set (λ (x : Part (Parcel V J O X)). x.quota) g.parts i (part q xs) now me);
     small = r.small;
@@ -148,6 +149,7 @@ module _ {V J O X : Type 0} (rooms : V → ℕ) (means : V → J → Result O X 
         runs = r.runs;
         answers = λ w. omega (arith, r.answers w, total-append (λ (x : Part (Parcel V J O X)). total w x.own) ps new, total-set (λ (x : Part (Parcel V J O X)). total w x.own) g.parts i (part (q + n) xs) (part q xs) me);
         jobs = r.jobs;
+        told = r.told;
         room = omega (arith, r.room, quota-sum);
         paid = omega (arith, r.paid, quota-sum);
         small = r.small;
@@ -167,6 +169,7 @@ module _ {V J O X : Type 0} (rooms : V → ℕ) (means : V → J → Result O X 
         runs = r.runs;
         answers = λ w. omega (arith, r.answers w, total-set (λ (x : Part (Parcel V J O X)). total w x.own) g.parts i (part q xs) now me, total-set (λ (x : Part (Parcel V J O X)). total w x.own) ps j (part n ys) (part 0 []) there, total-append w xs ys);
         jobs = r.jobs;
+        told = r.told;
         room = omega (arith, r.room, quota-sum);
         paid = omega (arith, r.paid, quota-sum);
         small = r.small;

@@ -2,12 +2,17 @@
 use Rattle.std.specs.Prelude.{◌≡◌, ℕ, ◌+◌, ◌≤◌, ◌<◌, Result, Option, Some, None, List, cond, nat_lt}
 use mathlib.Core.Option.{some, none, Option as Maybe}
 use Rattle.view_sums.specs.Sums.{total, same}
-use Rattle.waiter_chain.specs.Goods.{Goods, Part, Runs, answers_of, below}
+use Rattle.waiter_chain.specs.Goods.{Goods, Part, Runs, below}
 use Rattle.waiter_chain.specs.declared.view.Opening.{Opening}
 use Rattle.combine_job.specs.declared.parcel.Kept.{Kept}
 use Rattle.combine_job.specs.declared.parcel.JobAnswer.{JobAnswer}
 use Rattle.combine_job.specs.declared.parcel.Parcel.{Parcel}
 use Rattle.combine_job.specs.declared.parcel.Parcel.TheVariants.{Value, Posted, Answered}
+
+-- the weight of what a node has, where it has something
+abbrev pub weight : {A : Type 0} → (A → ℕ) → Maybe A → ℕ
+weight w none = 0
+weight w (some x) = w x
 
 module _ {V J O X : Type 0} (rooms : V → ℕ) (means : V → J → Result O X → V → Type 0) where
   -- the job runs on the first value, at its position, and leaves the second: the answer is the plain meaning of the job
@@ -20,8 +25,15 @@ module _ {V J O X : Type 0} where
   abbrev pub Admits : (V → ℕ) → Parcel V J O X → ℕ → Type 0
   Admits rooms v q = (k : Kept V) × (v ≡ Value k) × (k.ran ≡ 0) × (q ≤ rooms k.value)
 
+  -- a job with its answer, as a pass's own list has them
+  abbrev pub answer_to : J → JobAnswer O X → Parcel V J O X × Parcel V J O X
+  answer_to job answer = (Posted job, Answered answer)
+
   abbrev pub IsJob : (J → Type 0) → Parcel V J O X → Type 0
   IsJob is_ready v = (j : J) × (v ≡ Posted j) × is_ready j
+
+  abbrev pub IsAnswer : Parcel V J O X → Type 0
+  IsAnswer v = (a : JobAnswer O X) × (v ≡ Answered a)
 
   -- the kept value, where this is one
   abbrev pub kept_in : Parcel V J O X → Option (Kept V)
@@ -35,18 +47,13 @@ module _ {V J O X : Type 0} where
   place p (Posted j) = 0
   place p (Answered a) = same a.at p
 
-  -- how often the position p is among these
-  abbrev pub places : ℕ → List (Parcel V J O X) → ℕ
-  places p xs = total (place p) xs
+  -- how often the position p is among the answers of these jobs
+  abbrev pub places : ℕ → List (Parcel V J O X × Parcel V J O X) → ℕ
+  places p xs = total (λ x. place p x.1) xs
 
-  -- these answers have the positions below n, each once
-  abbrev pub EachOnce : List (Parcel V J O X) → ℕ → Type 0
+  -- the answers of these jobs have the positions below n, each once
+  abbrev pub EachOnce : List (Parcel V J O X × Parcel V J O X) → ℕ → Type 0
   EachOnce xs n = (p : ℕ) → places p xs ≡ cond (nat_lt p n) 1 0
-
-  -- the weight of what a node has, where it has something
-  abbrev pub weight : (Parcel V J O X → ℕ) → Maybe (Parcel V J O X) → ℕ
-  weight w none = 0
-  weight w (some x) = w x
 
   abbrev pub one : Maybe (Parcel V J O X) → ℕ
   one none = 0
@@ -55,8 +62,8 @@ module _ {V J O X : Type 0} where
   abbrev pub quotas : List (Part (Parcel V J O X)) → ℕ
   quotas ps = total (λ x. x.quota) ps
 
-  -- the weights of all answers in the passes' own lists
-  abbrev pub all_own : (Parcel V J O X → ℕ) → List (Part (Parcel V J O X)) → ℕ
+  -- the weights of all jobs and answers in the passes' own lists
+  abbrev pub all_own : (Parcel V J O X × Parcel V J O X → ℕ) → List (Part (Parcel V J O X)) → ℕ
   all_own w ps = total (λ x. total w x.own) ps
 
 module _ {V J O X : Type 0} (rooms : V → ℕ) (means : V → J → Result O X → V → Type 0) (is_ready : J → Type 0) where
@@ -69,9 +76,11 @@ module _ {V J O X : Type 0} (rooms : V → ℕ) (means : V → J → Result O X 
     pub none_ran : first.ran ≡ 0
     pub is : g.value ≡ Value now
     pub runs : Runs (Related rooms means) o.first.value history g.value
-    -- the answers in the passes' own lists and in answer slots are those of the history: by every weight, so each as often as there
-    pub answers : (w : Parcel V J O X → ℕ) → all_own w g.parts + below (weight w) g.answered o.nodes ≡ total w (answers_of history)
+    -- the jobs in the passes' own lists and those whose answers wait, each with its answer, are those of the history: by every weight, so each as often as there
+    pub answers : (w : Parcel V J O X × Parcel V J O X → ℕ) → all_own w g.parts + below (weight w) g.answered o.nodes ≡ total w history
     pub jobs : (n : ℕ) (x : Parcel V J O X) → g.posted n ≡ some x → IsJob is_ready x
+    -- what waits for a node is the answer of a job
+    pub told : (n : ℕ) (x : Parcel V J O X × Parcel V J O X) → g.answered n ≡ some x → IsAnswer x.1
     -- there is room for all quotas, and for the posted jobs that have not run
     pub room : quotas g.parts + below one g.posted o.nodes ≤ rooms now.value
     pub paid : now.ran + (quotas g.parts + below one g.posted o.nodes) ≤ o.quota

@@ -1,7 +1,6 @@
 -- A pass that takes the lock for one job.
-use Rattle.std.proofs.Common.{◌≡◌, ℕ, ◌≤◌, Result, List, [], ◌∷◌, ◌++◌, length, ap, ◌∙◌, ⊎_elim, arith, cond}
+use Rattle.std.proofs.Common.{◌≡◌, ℕ, ◌≤◌, Result, Option, List, [], ◌∷◌, ◌++◌, length, false, ap, ◌∙◌, subst, ⊎_elim, arith, cond}
 use Rattle.std.proofs.lemmas.Bool.{le-ltb}
-use Rattle.waiter_chain.specs.Goods.{answers_of}
 use Rattle.waiter_chain.specs.Steps.{SeatState}
 use Rattle.waiter_chain.specs.Calls.{readied_state}
 use Rattle.waiter_chain.specs.declared.view.Opening.{Opening}
@@ -10,7 +9,8 @@ use Rattle.waiter_chain.specs.declared.turn.Turn.{Turn}
 use Rattle.combine_job.specs.declared.parcel.Kept.{Kept}
 use Rattle.combine_job.specs.declared.parcel.Parcel.{Parcel}
 use Rattle.combine_job.specs.Parcels.{place, places}
-use Rattle.dist_mutex.specs.Owners.{Stands, Owning, LockedBy, WonLock, Spent, RanOne, behind_state, polled_state}
+use Rattle.dist_mutex.specs.declared.owner.Next.{Next}
+use Rattle.dist_mutex.specs.Owners.{ReleasedAs, Stands, Owning, LockedBy, WonLock, Spent, RanOne, behind_state, polled_state}
 
 module _ {V J O X : Type 0} (rooms : V → ℕ) (means : V → J → Result O X → V → Type 0) (o : Opening (Parcel V J O X)) where
   -- what a lock leaves of the view, and what it tells
@@ -24,15 +24,21 @@ module _ {V J O X : Type 0} (rooms : V → ℕ) (means : V → J → Result O X 
 
   pub found : (slots : ℕ) (m n : SeatState (Parcel V J O X)) (t : Turn) (kept : Kept V) → WonLock rooms means o slots m n t kept → Found slots m n t kept
   found slots m n t kept = ⊎_elim
-      (λ l. of-locked slots (readied_state m) n _ t kept l)
+      (λ l. of-locked slots (readied_state false m) n _ t kept l)
       (λ w. of-locked slots (polled_state w.1 (behind_state w.0 m)) n _ t kept w.3)
 
   -- the pass's own answers lie below the count
-  pub own_below : (own : List (Parcel V J O X)) (q : ℕ) (kept : Kept V) → Stands rooms means o own q kept → (p : ℕ) → kept.ran ≤ p → places p own ≡ 0
-  own_below own q kept s p far = omega (arith, s.mine (place p), s.once p, ap {B = ℕ} (λ b. cond b 1 0) (le-ltb p kept.ran far))
+  pub own_below : (own : List (Parcel V J O X × Parcel V J O X)) (q : ℕ) (kept : Kept V) → Stands rooms means o own q kept → (p : ℕ) → kept.ran ≤ p → places p own ≡ 0
+  own_below own q kept s p far = omega (arith, s.mine (λ x. place p x.1), s.once p, ap {B = ℕ} (λ b. cond b 1 0) (le-ltb p kept.ran far))
 
 module _ {V J O X : Type 0} where
   pub ran_one : (most : ℕ) (m l n : SeatState (Parcel V J O X)) (ran : List (Parcel V J O X × Parcel V J O X)) (job answer : Parcel V J O X) → ran ≡ (job, answer) ∷ [] → 1 ≤ m.0.quota
       → (l.0.number ≡ m.0.number) × (l.0.spare ≡ m.0.spare) × (l.0.past ≡ m.0.past) × (l.0.quota ≡ m.0.quota) × (l.0.own ≡ m.0.own) → Spent most ran l n → RanOne m n job answer
   ran_one most m l n ran job answer is enough a s =
-      (s.0, s.1 ∙ a.0, s.2 ∙ a.1, s.3 ∙ a.2, omega (arith, s.4, a.3, ap length is, enough), s.5 ∙ (λ i. a.4 i ++ answers_of (is i)))
+      (s.0, s.1 ∙ a.0, s.2 ∙ a.1, s.3 ∙ a.2, omega (arith, s.4, a.3, ap length is, enough), s.5 ∙ (λ i. a.4 i ++ is i))
+
+module _ {P : Type 0} where
+  -- an unlock of the same pass, after the same jobs
+  pub released_at : (slots : ℕ) (ran made : List (P × P)) (t u : Turn) (m l : SeatState P) (hand : Option P) (n : SeatState P) (x : Next) → ran ≡ made → t ≡ u → m ≡ l → ReleasedAs slots ran t (m.0, (0, hand) ∷ []) n x → ReleasedAs slots made u (l.0, (0, hand) ∷ []) n x
+  released_at slots ran made t u m l hand n x a b c h =
+      subst (λ (z : SeatState P). ReleasedAs slots made u (z.0, (0, hand) ∷ []) n x) c (subst (λ (z : Turn). ReleasedAs slots made z (m.0, (0, hand) ∷ []) n x) b (subst (λ (z : List (P × P)). ReleasedAs slots z t (m.0, (0, hand) ∷ []) n x) a h))

@@ -2,7 +2,7 @@
 use Rattle.std.proofs.Common.{◌≡◌, ℕ, zero, suc, ◌+◌, ◌<◌, Result, Option, Some, None, List, [], ◌∷◌, ◌++◌, length, false, refl, sym, ap, ◌∙◌, subst, arith}
 use mathlib.Core.Option.{none, Option as Maybe}
 use Rattle.view_sums.specs.Sums.{total, term_le}
-use Rattle.waiter_chain.specs.Goods.{Goods, Part, part, below, Runs, answers_of}
+use Rattle.waiter_chain.specs.Goods.{Goods, Part, part, below, Runs}
 use Rattle.waiter_chain.specs.Chains.{part_of}
 use Rattle.waiter_chain.specs.Steps.{SeatState, Sound, ownership, moved}
 use Rattle.waiter_chain.specs.Calls.{Won}
@@ -36,7 +36,7 @@ below-none w f zero z h = refl
 below-none w f (suc n) z h = omega (arith, below-none w f n z (λ k l. h k (omega arith)), ap w (h n (omega arith)), z)
 
 module _ {V J O X : Type 0} (rooms : V → ℕ) (means : V → J → Result O X → V → Type 0) (is_ready : J → Type 0) (o : Opening (Parcel V J O X)) where
-  pub stands : (y : Parcel V J O X) (q : ℕ) (own : List (Parcel V J O X)) → Sound (Ruled rooms means is_ready o) y (part q own) → (kept : Kept V) × (y ≡ Value kept) × Stands rooms means o own q kept
+  pub stands : (y : Parcel V J O X) (q : ℕ) (own : List (Parcel V J O X × Parcel V J O X)) → Sound (Ruled rooms means is_ready o) y (part q own) → (kept : Kept V) × (y ≡ Value kept) × Stands rooms means o own q kept
   stands y q own s =
       let g : Goods (Parcel V J O X) = s.0 in let r : Ruled rooms means is_ready o g = s.1 in
       let runs : Runs (Related rooms means) o.first.value r.history (Value r.now) = subst (Runs (Related rooms means) o.first.value r.history) r.is r.runs in
@@ -99,5 +99,5 @@ module _ {V J O X : Type 0} (rooms : V → ℕ) (means : V → J → Result O X 
       → ((w : Part (Parcel V J O X) → ℕ) → w (part 0 []) ≡ 0 → total w g.parts ≡ w (part_of v)) → Ends rooms means o v.own (kept_in g.value)
   all_answers v g r no-answer alone =
       let runs : Runs (Related rooms means) o.first.value r.history (Value r.now) = subst (Runs (Related rooms means) o.first.value r.history) r.is r.runs in
-      let same : (w : Parcel V J O X → ℕ) → total w v.own ≡ total w (answers_of r.history) = λ w. omega (arith, alone (λ (x : Part (Parcel V J O X)). total w x.own) refl, r.answers w, below-none (weight w) g.answered o.nodes refl no-answer) in
-      (r.now, r.history, ap kept_in r.is, runs, same, λ p. same (place p) ∙ history-once rooms means r.history o.first.value (Value r.now) r.first r.now r.began refl r.none_ran runs p)
+      let same : (w : Parcel V J O X × Parcel V J O X → ℕ) → total w v.own ≡ total w r.history = λ w. omega (arith, alone (λ (x : Part (Parcel V J O X)). total w x.own) refl, r.answers w, below-none (weight w) g.answered o.nodes refl no-answer) in
+      (r.now, r.history, ap kept_in r.is, runs, same, λ p. same (λ x. place p x.1) ∙ history-once rooms means r.history o.first.value (Value r.now) r.first r.now r.began refl r.none_ran runs p)

@@ -1,6 +1,5 @@
 -- How an unlock ends an ownership.
 use Rattle.std.proofs.Common.{ℕ, ◌+◌, ◌-◌, ◌*◌, List, [], ◌∷◌, ◌++◌, length, refl, sym, ap, subst, arith}
-use Rattle.waiter_chain.specs.Goods.{answers_of}
 use Rattle.waiter_chain.specs.Steps.{SeatState, entry, ended}
 use Rattle.waiter_chain.specs.declared.view.Entry.{Entry}
 use Rattle.waiter_chain.specs.declared.view.Event.TheVariants.{Free, Grant}
@@ -16,4 +15,4 @@ module _ {P : Type 0} where
   spends slots ran t m n (next.Plain x) r =
       let l : SeatState P = r.0 in let u = r.1 in let w = waits-stay slots ran t u x m l r.2 in let a = w.0 in let e : Entry = entry l.0 Grant (1 + 2 * (u.first - 2)) (u.end + 4) in
       let g = grown 2 m l e (ended l.0 ran e, []) w.1 refl in
-      subst (Spent 3 ran m) (sym r.3) ((refl, refl), a.1, a.2, a.3, ap (λ (q : ℕ). q - length ran) a.4, ap (λ xs. xs ++ answers_of ran) a.5, g)
+      subst (Spent 3 ran m) (sym r.3) ((refl, refl), a.1, a.2, a.3, ap (λ (q : ℕ). q - length ran) a.4, ap (λ xs. xs ++ ran) a.5, g)

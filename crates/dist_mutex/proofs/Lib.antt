@@ -3,3 +3,4 @@ pub mod Hands
 pub mod Waits
 pub mod Combines
 pub mod Faults
+pub mod Shown

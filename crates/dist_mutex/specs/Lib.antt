@@ -1,3 +1,5 @@
 pub mod Owners
+pub mod Passes
+pub mod Shows
 pub mod Tries
 pub mod TryLaws

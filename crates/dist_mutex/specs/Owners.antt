@@ -1,7 +1,7 @@
 -- What an owner of the lock knows and does.
 use Rattle.std.specs.Prelude.{◌≡◌, ◌≢◌, ◌⊎◌, ℕ, ◌+◌, ◌-◌, ◌*◌, ◌≤◌, ◌<◌, Result, Option, Some, None, List, [], ◌∷◌, ◌++◌, length, replicate, false}
 use Rattle.view_sums.specs.Sums.{total}
-use Rattle.waiter_chain.specs.Goods.{Runs, answers_of}
+use Rattle.waiter_chain.specs.Goods.{Runs}
 use Rattle.waiter_chain.specs.Steps.{SeatState, ownership, entry, moved, ended, with_steps}
 use Rattle.waiter_chain.specs.Calls.{IsIdle, OwnsBy, FollowsAs, readied_state}
 use Rattle.waiter_chain.specs.declared.view.Opening.{Opening}
@@ -25,7 +25,7 @@ module _ {P : Type 0} where
 
   -- the pass has stored 1 in its own status, and has swapped itself in behind the word b
   abbrev pub behind_state : ℕ → SeatState P → SeatState P
-  behind_state b m = (moved (readied_state m).0 (Behind b false) (entry m.0 SwapIn 0 b), [])
+  behind_state b m = (moved (readied_state false m).0 (Behind b None) (entry m.0 SwapIn 0 b), [])
 
   -- the pass has found its own status 1 so many times
   abbrev pub polled_state : ℕ → SeatState P → SeatState P
@@ -36,26 +36,26 @@ module _ {P : Type 0} where
   ReleasedAs slots ran t m n next.Free = FollowsAs slots ran t m n follow.Free
   ReleasedAs slots ran t m n (next.Plain x) = (l : SeatState P) × (u : Turn) × FollowsAs slots ran t m l (follow.Waits u x) × (n ≡ (ended l.0 ran (entry l.0 Grant (1 + 2 * (u.first - 2)) (u.end + 4)), []))
 
-  -- the pass is idle again: its quota has fallen by the number of these jobs, their answers stand at the end of its list, and it made at most so many steps
+  -- the pass is idle again: its quota has fallen by the number of these jobs, these and their answers stand at the end of its list, and it made at most so many steps
   abbrev pub Spent : ℕ → List (P × P) → SeatState P → SeatState P → Type 0
-  Spent most ran m n = IsIdle n × (n.0.number ≡ m.0.number) × (n.0.spare ≡ m.0.spare) × (n.0.past ≡ m.0.past) × (n.0.quota ≡ m.0.quota - length ran) × (n.0.own ≡ m.0.own ++ answers_of ran)
+  Spent most ran m n = IsIdle n × (n.0.number ≡ m.0.number) × (n.0.spare ≡ m.0.spare) × (n.0.past ≡ m.0.past) × (n.0.quota ≡ m.0.quota - length ran) × (n.0.own ≡ m.0.own ++ ran)
       × ((made : List Entry) × (n.0.steps ≡ m.0.steps ++ made) × (length made ≤ most))
 
 module _ {V J O X : Type 0} where
-  -- the pass is idle again, has paid for one job, and has its answer at the end of its list
+  -- the pass is idle again, has paid for one job, and has it with its answer at the end of its list
   abbrev pub RanOne : SeatState (Parcel V J O X) → SeatState (Parcel V J O X) → Parcel V J O X → Parcel V J O X → Type 0
-  RanOne m n job answer = IsIdle n × (n.0.number ≡ m.0.number) × (n.0.spare ≡ m.0.spare) × (n.0.past ≡ m.0.past) × (n.0.quota + 1 ≡ m.0.quota) × (n.0.own ≡ m.0.own ++ answer ∷ [])
+  RanOne m n job answer = IsIdle n × (n.0.number ≡ m.0.number) × (n.0.spare ≡ m.0.spare) × (n.0.past ≡ m.0.past) × (n.0.quota + 1 ≡ m.0.quota) × (n.0.own ≡ m.0.own ++ (job, answer) ∷ [])
 
 module _ {V J O X : Type 0} (rooms : V → ℕ) (means : V → J → Result O X → V → Type 0) where
-  -- what is known of the value that an owner finds, beside its own answers and its quota
-  pub record Stands (o : Opening (Parcel V J O X)) (own : List (Parcel V J O X)) (quota : ℕ) (kept : Kept V) : Type 0 where
+  -- what is known of the value that an owner finds, beside its own jobs and answers and its quota
+  pub record Stands (o : Opening (Parcel V J O X)) (own : List (Parcel V J O X × Parcel V J O X)) (quota : ℕ) (kept : Kept V) : Type 0 where
     -- the jobs that ran, each with its answer: they lead from the first value to this one
     pub history : List (Parcel V J O X × Parcel V J O X)
     pub runs : Runs (Related rooms means) o.first.value history (Value kept)
     -- their answers have the positions below the count, each once
-    pub once : EachOnce (answers_of history) kept.ran
-    -- the pass's own answers are among them
-    pub mine : (w : Parcel V J O X → ℕ) → total w own ≤ total w (answers_of history)
+    pub once : EachOnce history kept.ran
+    -- the pass's own jobs are among them, each with its answer
+    pub mine : (w : Parcel V J O X × Parcel V J O X → ℕ) → total w own ≤ total w history
     pub room : quota ≤ rooms kept.value
     pub count : kept.ran + quota ≤ o.quota
     pub small : o.quota < 18446744073709551616
@@ -75,10 +75,15 @@ module _ {V J O X : Type 0} (rooms : V → ℕ) (means : V → J → Result O X 
 
   -- the pass entered and found the lock free; or it waited behind another, polled its own status until that was 4 or more, and was then the owner
   abbrev pub WonLock : Opening (Parcel V J O X) → ℕ → SeatState (Parcel V J O X) → SeatState (Parcel V J O X) → Turn → Kept V → Type 0
-  WonLock o slots m n t kept = LockedBy o slots (readied_state m) n (entry m.0 SwapIn 0 0) t kept
+  WonLock o slots m n t kept = LockedBy o slots (readied_state false m) n (entry m.0 SwapIn 0 0) t kept
       ⊎ ((b : ℕ) × (k : ℕ) × (b ≢ 0) × LockedBy o slots (polled_state k (behind_state b m)) n (entry m.0 LoadStatus (1 + 2 * m.0.number) (t.end + 4)) t kept)
 
-  -- the lock ends with a value that the whole history made, and these answers are exactly those of the history
-  abbrev pub Ends : Opening (Parcel V J O X) → List (Parcel V J O X) → Option (Kept V) → Type 0
+  -- all steps of a pass that took the lock, ran one job and gave the lock up: those of the lock, by which it found the first value, and those of the unlock, which put back what the job made of it
+  abbrev pub Combined : Opening (Parcel V J O X) → ℕ → SeatState (Parcel V J O X) → SeatState (Parcel V J O X) → Parcel V J O X → Parcel V J O X → Kept V → Kept V → Next → Type 0
+  Combined o slots m n job answer found left next = (l : SeatState (Parcel V J O X)) × (t : Turn) × WonLock o slots m l t found × Related rooms means (Value found) job answer (Value left)
+      × ReleasedAs slots ((job, answer) ∷ []) t (l.0, (0, Some (Value left)) ∷ []) n next
+
+  -- the lock ends with a value that the whole history made, and these jobs are exactly those of the history, each with its answer
+  abbrev pub Ends : Opening (Parcel V J O X) → List (Parcel V J O X × Parcel V J O X) → Option (Kept V) → Type 0
   Ends o own out = (kept : Kept V) × (history : List (Parcel V J O X × Parcel V J O X)) × (out ≡ Some kept) × Runs (Related rooms means) o.first.value history (Value kept)
-      × ((w : Parcel V J O X → ℕ) → total w own ≡ total w (answers_of history)) × EachOnce own kept.ran
+      × ((w : Parcel V J O X × Parcel V J O X → ℕ) → total w own ≡ total w history) × EachOnce own kept.ran

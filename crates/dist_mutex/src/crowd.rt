@@ -1,6 +1,6 @@
 //! Many threads at one lock. What is compared holds whatever the schedule.
 ghost use Rattle.std.specs.Prelude.{◌≡◌, ◌+◌, ◌≤◌, ◌*◌};
-ghost use Rattle.dist_mutex.specs.Owners.{IsFree};
+ghost use Rattle.dist_mutex.specs.Passes.{dist_view, IsDistPassOf, IsAtRest};
 
 use crate::mutex::DistMutex;
 use crate::pass::DistPass;
@@ -92,11 +92,11 @@ impl Seen {
 
 // Changes money so many times, of which every third time gives more than it takes.
 fn serve<R: Wait>(rt: &R, shop: &Shop, pass: &mut Hand, rounds: u64, all: u64) -> Seen
-    requires own { pass.old.pass.seat.table_id ≡ shop.now.chain.table.shared.table_id }
-    requires idle { IsFree pass.old.pass.seat.me pass.old.runs.log.items }
-    requires quota { rounds ≤ pass.old.pass.seat.me.0.quota }
-    ensures own { pass.new.pass.seat.table_id ≡ pass.old.pass.seat.table_id }
-    ensures idle { IsFree pass.new.pass.seat.me pass.new.runs.log.items }
+    requires own { IsDistPassOf shop.now pass.old }
+    requires idle { IsAtRest pass.old }
+    requires quota { rounds ≤ (dist_view pass.old).quota }
+    ensures own { IsDistPassOf shop.now pass.new }
+    ensures idle { IsAtRest pass.new }
 {
     let mut seen = Seen {
         given: 0,
@@ -128,11 +128,11 @@ fn serve_both<R: Threads + Wait + Sync>(
     rounds: u64,
     all: u64,
 ) -> Seen
-    requires own { (first.old.pass.seat.table_id ≡ shop.now.chain.table.shared.table_id) × (second.old.pass.seat.table_id ≡ shop.now.chain.table.shared.table_id) }
-    requires idle { IsFree first.old.pass.seat.me first.old.runs.log.items × IsFree second.old.pass.seat.me second.old.runs.log.items }
-    requires quota { (rounds ≤ first.old.pass.seat.me.0.quota) × (rounds ≤ second.old.pass.seat.me.0.quota) }
-    ensures own { (first.new.pass.seat.table_id ≡ first.old.pass.seat.table_id) × (second.new.pass.seat.table_id ≡ second.old.pass.seat.table_id) }
-    ensures idle { IsFree first.new.pass.seat.me first.new.runs.log.items × IsFree second.new.pass.seat.me second.new.runs.log.items }
+    requires own { IsDistPassOf shop.now first.old × IsDistPassOf shop.now second.old }
+    requires idle { IsAtRest first.old × IsAtRest second.old }
+    requires quota { (rounds ≤ (dist_view first.old).quota) × (rounds ≤ (dist_view second.old).quota) }
+    ensures own { IsDistPassOf shop.now first.new × IsDistPassOf shop.now second.new }
+    ensures idle { IsAtRest first.new × IsAtRest second.new }
 {
     let (one, two) = join_mut(
         rt,

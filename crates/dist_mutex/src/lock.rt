@@ -7,7 +7,9 @@ ghost use Rattle.waiter_chain.specs.declared.view.Entry.{Entry};
 ghost use Rattle.combine_job.specs.declared.parcel.Kept.{Kept};
 ghost use Rattle.combine_job.specs.declared.parcel.Parcel.TheVariants.{Value, Posted, Answered};
 ghost use Rattle.combine_job.specs.Parcels.{Related, Ruled, places};
-ghost use Rattle.dist_mutex.specs.Owners.{IsFree, Owning, LockedBy, WonLock, polled_state, ReleasedAs, Spent, RanOne};
+ghost use Rattle.dist_mutex.specs.Owners.{Owning, LockedBy, WonLock, polled_state, ReleasedAs, Spent, RanOne, Combined};
+ghost use Rattle.dist_mutex.specs.declared.owner.Next.{Next};
+ghost use Rattle.dist_mutex.specs.Passes.{opening_of, slots_of, dist_state, dist_view, runs_of, IsDistPassOf, IsSamePass, IsAtRest};
 
 use crate::mutex::DistMutex;
 use crate::owner::{Next, Owner, Released};
@@ -23,13 +25,13 @@ use waiter_chain::turn::{DistBusy, Entered, Follow, Kind, Polled, Turn};
 impl<V: Room, J: Job<V>> DistMutex<V, J> {
     // The owner moves the value out of slot 0 into its hand.
     pub(crate) fn take(&self, pass: &mut DistPass<V, J>, turn: Turn) -> Owner<V>
-        requires own { pass.old.pass.seat.table_id ≡ self.now.chain.table.shared.table_id }
-        requires runs { pass.old.runs.log.items ≡ [] }
-        requires won { (m : _) × (e : Entry) × Won (Ruled V.rooms J.means J.is_ready self.now.chain.table.shared.key) self.now.chain.table.shared.table_id.slots turn m e pass.old.pass.seat.me }
-        ensures own { (pass.new.pass.seat.table_id ≡ pass.old.pass.seat.table_id) × (pass.new.pass.seat.id ≡ pass.old.pass.seat.id) }
-        ensures runs { pass.new.runs.log.items ≡ [] }
+        requires own { IsDistPassOf self.now pass.old }
+        requires runs { runs_of pass.old ≡ [] }
+        requires won { (m : _) × (e : Entry) × Won (Ruled V.rooms J.means J.is_ready (opening_of self.now)) (slots_of self.now) turn m e (dist_state pass.old) }
+        ensures own { IsSamePass pass.old pass.new }
+        ensures runs { runs_of pass.new ≡ [] }
         ensures turn { result.turn ≡ turn }
-        ensures locked { (m : _) (e : Entry) → Won (Ruled V.rooms J.means J.is_ready self.now.chain.table.shared.key) self.now.chain.table.shared.table_id.slots turn m e pass.old.pass.seat.me → LockedBy V.rooms J.means self.now.chain.table.shared.key self.now.chain.table.shared.table_id.slots m pass.new.pass.seat.me e result.turn result.kept }
+        ensures locked { (m : _) (e : Entry) → Won (Ruled V.rooms J.means J.is_ready (opening_of self.now)) (slots_of self.now) turn m e (dist_state pass.old) → LockedBy V.rooms J.means (opening_of self.now) (slots_of self.now) m (dist_state pass.new) e result.turn result.kept }
     {
         let kept = match self.chain.move_slot(&mut pass.pass, 0, None) {
             Some(parcel) => parcel.into_kept(),
@@ -40,11 +42,11 @@ impl<V: Room, J: Job<V>> DistMutex<V, J> {
 
     /// One exchange of the central word from 0 to 1. It is refused exactly where the word isn't 0.
     pub fn try_lock(&self, pass: &mut DistPass<V, J>) -> Result<Owner<V>, DistBusy>
-        requires own { pass.old.pass.seat.table_id ≡ self.now.chain.table.shared.table_id }
-        requires idle { IsFree pass.old.pass.seat.me pass.old.runs.log.items }
-        ensures own { (pass.new.pass.seat.table_id ≡ pass.old.pass.seat.table_id) × (pass.new.pass.seat.id ≡ pass.old.pass.seat.id) }
-        ensures runs { pass.new.runs.log.items ≡ [] }
-        ensures answer { MatchResult result (λ o. LockedBy V.rooms J.means self.now.chain.table.shared.key self.now.chain.table.shared.table_id.slots pass.old.pass.seat.me pass.new.pass.seat.me (entry pass.old.pass.seat.me.0 event.TryIn 0 0) o.turn o.kept) (WasBusy pass.old.pass.seat.me pass.new.pass.seat.me) }
+        requires own { IsDistPassOf self.now pass.old }
+        requires idle { IsAtRest pass.old }
+        ensures own { IsSamePass pass.old pass.new }
+        ensures runs { runs_of pass.new ≡ [] }
+        ensures answer { MatchResult result (λ o. LockedBy V.rooms J.means (opening_of self.now) (slots_of self.now) (dist_state pass.old) (dist_state pass.new) (entry (dist_view pass.old) event.TryIn 0 0) o.turn o.kept) (WasBusy (dist_state pass.old) (dist_state pass.new)) }
     {
         let turn = self.chain.try_in(&mut pass.pass)?;
         Ok(self.take(pass, turn))
@@ -52,11 +54,11 @@ impl<V: Room, J: Job<V>> DistMutex<V, J> {
 
     /// Enters the chain and waits until the pass is the owner.
     pub fn lock<R: Wait>(&self, rt: &R, pass: &mut DistPass<V, J>) -> Owner<V>
-        requires own { pass.old.pass.seat.table_id ≡ self.now.chain.table.shared.table_id }
-        requires idle { IsFree pass.old.pass.seat.me pass.old.runs.log.items }
-        ensures own { (pass.new.pass.seat.table_id ≡ pass.old.pass.seat.table_id) × (pass.new.pass.seat.id ≡ pass.old.pass.seat.id) }
-        ensures runs { pass.new.runs.log.items ≡ [] }
-        ensures owner { WonLock V.rooms J.means self.now.chain.table.shared.key self.now.chain.table.shared.table_id.slots pass.old.pass.seat.me pass.new.pass.seat.me result.turn result.kept }
+        requires own { IsDistPassOf self.now pass.old }
+        requires idle { IsAtRest pass.old }
+        ensures own { IsSamePass pass.old pass.new }
+        ensures runs { runs_of pass.new ≡ [] }
+        ensures owner { WonLock V.rooms J.means (opening_of self.now) (slots_of self.now) (dist_state pass.old) (dist_state pass.new) result.turn result.kept }
     {
         match self.chain.enter(&mut pass.pass, Kind::Plain) {
             Entered::Owner(turn) => self.take(pass, turn),
@@ -66,17 +68,18 @@ impl<V: Room, J: Job<V>> DistMutex<V, J> {
 
     // Polls the pass's own status until an owner has made it the owner.
     fn wait<R: Wait>(&self, rt: &R, pass: &mut DistPass<V, J>) -> Owner<V>
-        requires own { pass.old.pass.seat.table_id ≡ self.now.chain.table.shared.table_id }
-        requires runs { pass.old.runs.log.items ≡ [] }
-        requires behind { IsBehind pass.old.pass.behind pass.old.pass.seat.me }
-        ensures own { (pass.new.pass.seat.table_id ≡ pass.old.pass.seat.table_id) × (pass.new.pass.seat.id ≡ pass.old.pass.seat.id) }
-        ensures runs { pass.new.runs.log.items ≡ [] }
-        ensures owner { (k : ℕ) × LockedBy V.rooms J.means self.now.chain.table.shared.key self.now.chain.table.shared.table_id.slots (polled_state k pass.old.pass.seat.me) pass.new.pass.seat.me (entry pass.old.pass.seat.me.0 event.LoadStatus (1 + 2 * pass.old.pass.seat.me.0.number) (result.turn.end + 4)) result.turn result.kept }
+        requires own { IsDistPassOf self.now pass.old }
+        requires runs { runs_of pass.old ≡ [] }
+        requires behind { IsBehind pass.old.pass.behind (dist_state pass.old) }
+        ensures own { IsSamePass pass.old pass.new }
+        ensures runs { runs_of pass.new ≡ [] }
+        ensures owner { (k : ℕ) × LockedBy V.rooms J.means (opening_of self.now) (slots_of self.now) (polled_state k (dist_state pass.old)) (dist_state pass.new) (entry (dist_view pass.old) event.LoadStatus (1 + 2 * (dist_view pass.old).number) (result.turn.end + 4)) result.turn result.kept }
     {
         for _ in rt.forever() {
             match self.chain.poll(&mut pass.pass) {
                 Polled::Owner(turn) => return self.take(pass, turn),
                 Polled::Still { word: _ } => thread::yield_now(),
+                Polled::Done => unreachable!(),
             }
         }
         unreachable!()
@@ -89,28 +92,28 @@ impl<V: Room, J: Job<V>> DistMutex<V, J> {
         owner: &mut Owner<V>,
         job: J,
     ) -> JobAnswer<J::Out, J::Fault>
-        requires own { pass.old.pass.seat.table_id ≡ self.now.chain.table.shared.table_id }
-        requires owner { Owning V.rooms J.means self.now.chain.table.shared.table_id.slots pass.old.pass.seat.me pass.old.runs.log.items owner.old.turn owner.old.kept }
-        requires quota { 1 ≤ pass.old.pass.seat.me.0.quota - length pass.old.runs.log.items }
+        requires own { IsDistPassOf self.now pass.old }
+        requires owner { Owning V.rooms J.means (slots_of self.now) (dist_state pass.old) (runs_of pass.old) owner.old.turn owner.old.kept }
+        requires quota { 1 ≤ (dist_view pass.old).quota - length (runs_of pass.old) }
         requires ready { J.is_ready job }
-        ensures own { (pass.new.pass.seat.table_id ≡ pass.old.pass.seat.table_id) × (pass.new.pass.seat.id ≡ pass.old.pass.seat.id) }
-        ensures same { (pass.new.pass.seat.me ≡ pass.old.pass.seat.me) × (owner.new.turn ≡ owner.old.turn) }
-        ensures listed { pass.new.runs.log.items ≡ pass.old.runs.log.items ++ (Posted job, Answered result) ∷ [] }
+        ensures own { IsSamePass pass.old pass.new }
+        ensures same { (dist_state pass.new ≡ dist_state pass.old) × (owner.new.turn ≡ owner.old.turn) }
+        ensures listed { runs_of pass.new ≡ runs_of pass.old ++ (Posted job, Answered result) ∷ [] }
         ensures position { (result.at ≡ owner.old.kept.ran) × (owner.new.kept.ran ≡ owner.old.kept.ran + 1) }
         ensures related { Related V.rooms J.means (Value owner.old.kept) (Posted job) (Answered result) (Value owner.new.kept) }
-        ensures owner { Owning V.rooms J.means self.now.chain.table.shared.table_id.slots pass.new.pass.seat.me pass.new.runs.log.items owner.new.turn owner.new.kept }
+        ensures owner { Owning V.rooms J.means (slots_of self.now) (dist_state pass.new) (runs_of pass.new) owner.new.turn owner.new.kept }
     {
         run_listed(&mut owner.kept, &mut pass.runs, job)
     }
 
     // The value stands in slot 0 again.
     fn hand_over(&self, pass: &mut DistPass<V, J>, turn: Turn) -> Next
-        requires own { pass.old.pass.seat.table_id ≡ self.now.chain.table.shared.table_id }
-        requires turn { HasTurn self.now.chain.table.shared.table_id.slots turn pass.old.pass.seat.me }
-        requires ends { MayEnd (Related V.rooms J.means) pass.old.runs.log.items pass.old.pass.seat.me }
-        ensures own { (pass.new.pass.seat.table_id ≡ pass.old.pass.seat.table_id) × (pass.new.pass.seat.id ≡ pass.old.pass.seat.id) }
-        ensures runs { pass.new.runs.log.items ≡ [] }
-        ensures released { ReleasedAs self.now.chain.table.shared.table_id.slots pass.old.runs.log.items turn pass.old.pass.seat.me pass.new.pass.seat.me result }
+        requires own { IsDistPassOf self.now pass.old }
+        requires turn { HasTurn (slots_of self.now) turn (dist_state pass.old) }
+        requires ends { MayEnd (Related V.rooms J.means) (runs_of pass.old) (dist_state pass.old) }
+        ensures own { IsSamePass pass.old pass.new }
+        ensures runs { runs_of pass.new ≡ [] }
+        ensures released { ReleasedAs (slots_of self.now) (runs_of pass.old) turn (dist_state pass.old) (dist_state pass.new) result }
     {
         let next = match self.chain.next(&mut pass.pass, turn, &pass.runs) {
             Follow::Free => Next::Free,
@@ -126,13 +129,13 @@ impl<V: Room, J: Job<V>> DistMutex<V, J> {
     /// Gives the lock up: to the next node of the owner's chain, or where nobody came, to nobody. The answers of the jobs
     /// that the owner ran stand in the pass's own list from then on.
     pub fn unlock(&self, pass: &mut DistPass<V, J>, owner: Owner<V>) -> Released
-        requires own { pass.old.pass.seat.table_id ≡ self.now.chain.table.shared.table_id }
-        requires owner { Owning V.rooms J.means self.now.chain.table.shared.table_id.slots pass.old.pass.seat.me pass.old.runs.log.items owner.turn owner.kept }
-        ensures own { (pass.new.pass.seat.table_id ≡ pass.old.pass.seat.table_id) × (pass.new.pass.seat.id ≡ pass.old.pass.seat.id) }
+        requires own { IsDistPassOf self.now pass.old }
+        requires owner { Owning V.rooms J.means (slots_of self.now) (dist_state pass.old) (runs_of pass.old) owner.turn owner.kept }
+        ensures own { IsSamePass pass.old pass.new }
         ensures combined { result.combined ≡ 0 }
-        ensures runs { pass.new.runs.log.items ≡ [] }
-        ensures spent { Spent 3 pass.old.runs.log.items pass.old.pass.seat.me pass.new.pass.seat.me }
-        ensures released { ReleasedAs self.now.chain.table.shared.table_id.slots pass.old.runs.log.items owner.turn (pass.old.pass.seat.me.0, (0, Some (Value owner.kept)) ∷ []) pass.new.pass.seat.me result.next }
+        ensures runs { runs_of pass.new ≡ [] }
+        ensures spent { Spent 3 (runs_of pass.old) (dist_state pass.old) (dist_state pass.new) }
+        ensures released { ReleasedAs (slots_of self.now) (runs_of pass.old) owner.turn (dist_view pass.old, (0, Some (Value owner.kept)) ∷ []) (dist_state pass.new) result.next }
     {
         let Owner { turn, kept } = owner;
         let value = Some(Parcel::Value(kept));
@@ -149,15 +152,16 @@ impl<V: Room, J: Job<V>> DistMutex<V, J> {
         pass: &mut DistPass<V, J>,
         job: J,
     ) -> JobAnswer<J::Out, J::Fault>
-        requires own { pass.old.pass.seat.table_id ≡ self.now.chain.table.shared.table_id }
-        requires idle { IsFree pass.old.pass.seat.me pass.old.runs.log.items }
-        requires quota { 1 ≤ pass.old.pass.seat.me.0.quota }
+        requires own { IsDistPassOf self.now pass.old }
+        requires idle { IsAtRest pass.old }
+        requires quota { 1 ≤ (dist_view pass.old).quota }
         requires ready { J.is_ready job }
-        ensures own { (pass.new.pass.seat.table_id ≡ pass.old.pass.seat.table_id) × (pass.new.pass.seat.id ≡ pass.old.pass.seat.id) }
-        ensures runs { pass.new.runs.log.items ≡ [] }
-        ensures answered { RanOne pass.old.pass.seat.me pass.new.pass.seat.me (Posted job) (Answered result) }
+        ensures own { IsSamePass pass.old pass.new }
+        ensures runs { runs_of pass.new ≡ [] }
+        ensures answered { RanOne (dist_state pass.old) (dist_state pass.new) (Posted job) (Answered result) }
         ensures related { (v : Kept V) × (w : Kept V) × Related V.rooms J.means (Value v) (Posted job) (Answered result) (Value w) }
-        ensures rises { (p : ℕ) → result.at ≤ p → places p pass.old.pass.seat.me.0.own ≡ 0 }
+        ensures steps { (v : Kept V) × (w : Kept V) × (x : Next) × Combined V.rooms J.means (opening_of self.now) (slots_of self.now) (dist_state pass.old) (dist_state pass.new) (Posted job) (Answered result) v w x }
+        ensures rises { (p : ℕ) → result.at ≤ p → places p (dist_view pass.old).own ≡ 0 }
     {
         let mut owner = self.lock(rt, pass);
         let answer = self.run_owned(pass, &mut owner, job);

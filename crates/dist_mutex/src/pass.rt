@@ -8,6 +8,7 @@ use waiter_chain::runs::OwnRuns;
 
 /// A pass of the chain, and the jobs that it has run for itself in its present ownership. Each call that promises
 /// something of the caller takes it.
+#[derive(Drop)]
 pub struct DistPass<V: Room, J: Job<V>> {
     pub(crate) pass: ChainPass<Parcel<V, J>>,
     pub(crate) runs: OwnRuns<Parcel<V, J>>,

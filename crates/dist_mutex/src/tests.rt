@@ -124,6 +124,7 @@ fn waiters_get_the_lock_in_turn(rt: HostRuntime) -> Result<(), Fail> {
     }
     match bank.chain.poll(&mut two.pass) {
         Polled::Owner(_turn) => panic!(rt; "node 2 was granted"),
+        Polled::Done => panic!(rt; "node 2 has no job"),
         Polled::Still { word } => assert!(rt; word == 1),
     }
     let released = bank.unlock(&mut zero, owner);
@@ -138,6 +139,7 @@ fn waiters_get_the_lock_in_turn(rt: HostRuntime) -> Result<(), Fail> {
     }
     match bank.chain.poll(&mut three.pass) {
         Polled::Still { word: _ } => panic!(rt; "node 3 still waits"),
+        Polled::Done => panic!(rt; "node 3 has no job"),
         Polled::Owner(turn) => {
             let owner = bank.take(&mut three, turn);
             match bank.unlock(&mut three, owner).next {
@@ -148,6 +150,7 @@ fn waiters_get_the_lock_in_turn(rt: HostRuntime) -> Result<(), Fail> {
     }
     match bank.chain.poll(&mut two.pass) {
         Polled::Still { word: _ } => panic!(rt; "node 2 still waits"),
+        Polled::Done => panic!(rt; "node 2 has no job"),
         Polled::Owner(turn) => {
             let owner = bank.take(&mut two, turn);
             match bank.unlock(&mut two, owner).next {
@@ -158,6 +161,7 @@ fn waiters_get_the_lock_in_turn(rt: HostRuntime) -> Result<(), Fail> {
     }
     match bank.chain.poll(&mut one.pass) {
         Polled::Still { word: _ } => panic!(rt; "node 1 still waits"),
+        Polled::Done => panic!(rt; "node 1 has no job"),
         Polled::Owner(turn) => {
             let owner = bank.take(&mut one, turn);
             match bank.unlock(&mut one, owner).next {

@@ -77,7 +77,7 @@ module _ {C P : Type 0} (g : Ghosts C P) (plan : Plan C) (n id : ℕ) (me : Me (
         keeps,
         tt,
         subst (λ (z : ℕ). Holds g plan record { words = set s.words place z; homes = s.homes; views = set s.views id t.0 }) (ap announce_of hit ∙ sym turns) t.1,
-        (same t.0 kinds.Announce x true (Announcing me.0.shape.slots 0 false) me.0.part t.2.0, λ k e. ((λ _. told (Announces g) x t.0 t.2 k e), λ ne. absurd (ne hit))),
+        (same t.0 kinds.Announce x true (Announcing 0 0 false) me.0.part t.2.0, λ k e. ((λ _. told (Announces g) x t.0 t.2 k e), λ ne. absurd (ne hit))),
       ))
       (λ miss. let t = looks_at g plan s h id lock me.0 at lives shape near kinds.Announce refl fits (λ e. absurd (cc)) in let w : View P = after_look me.0 kinds.Announce lock x in (
         w,
@@ -106,9 +106,9 @@ module _ {C P : Type 0} (g : Ghosts C P) (plan : Plan C) (n id : ℕ) (me : Me (
         (same t.0 kinds.Hold x false (standing me.0 lock) me.0.part t.2.1.0, λ k e. ((λ hit. absurd (miss hit)), λ _. told (HoldMisses g) x t.0 t.2 k e)),
       )))
 
-  pub retracts : standing me.0 lock ≡ Announcing plan.shape.slots 0 false → Allows (Holds g plan) n id me i (λ x. bit_xor x 5) (At (Retracts g) (step n i 5 0 none) me)
-  retracts st = let F : ℕ → Type 0 = λ i. Allows (Holds g plan) n id me i (λ x. bit_xor x 5) (At (Retracts g) (step n i 5 0 none) me) in
-      subst F (sym is) (λ s h wide at fits. let x : ℕ = get_or s.words place 0 in let t = retracted g plan s h id lock me.0 at lives shape near st in
+  pub retracts : (p : ℕ) → standing me.0 lock ≡ Announcing p 0 false → Allows (Holds g plan) n id me i (λ x. bit_xor x 5) (At (Retracts g) (step n i 5 0 none) me)
+  retracts p st = let F : ℕ → Type 0 = λ i. Allows (Holds g plan) n id me i (λ x. bit_xor x 5) (At (Retracts g) (step n i 5 0 none) me) in
+      subst F (sym is) (λ s h wide at fits. let x : ℕ = get_or s.words place 0 in let t = retracted g plan s h id lock me.0 at lives shape near p st in
       (t.0, keeps, tt, t.1, (same t.0 kinds.Retract x true Away me.0.part t.2.0, told (Retracts g) x t.0 t.2)))
 
   pub releases : standing me.0 lock ≡ Exclusive → g.settled lock me.0.part → Allows (Holds g plan) n id me i (λ x. bit_xor x 8) (At (Releases g) (step n i 8 0 none) me)

@@ -28,7 +28,8 @@ pub enter_lawful : (w named b : ℕ) (o : Tally) → Lawful w named (plus o (wei
 enter_lawful w named b o h clear few one calm =
     let k = law_bits w named (plus o (weight Away)) h in let a = h.alone in let bt = h.bit in let s = h.shows in
     let k0 = k.0 in let k2 = k.2 in let k3 = k.3 in
-    record {
+    let lim = h.bounded in record {
+      bounded = omega arith;
       may = h.may + b;
       bit = omega arith;
       shows = omega (arith, units_more w (o.hand + named) (flags h.may o) (units o) b (omega arith) (omega arith) few);
@@ -43,7 +44,8 @@ pub lower_lawful : (w named x y : ℕ) (o : Tally) → Lawful w named (plus o (t
     → Lawful ((w + 18446744069414584320) % 18446744073709551616) named (plus o (weight Away))
 lower_lawful w named x y o h one few =
     let a = h.alone in let bt = h.bit in let s = h.shows in let nob = h.nobody in
-    record {
+    let lim = h.bounded in record {
+      bounded = omega arith;
       may = h.may;
       bit = bt;
       shows = omega (arith, units_less w (o.hand + named) (flags h.may o) (units o) (omega arith) (omega arith) few);
@@ -59,7 +61,8 @@ pub announce_lawful : (w named p : ℕ) (o : Tally) → w < 18446744073709551616
 announce_lawful w named p o fits h no_up no_begun no_held =
     let k = law_bits w named (plus o (weight Away)) h in let a = h.alone in let bt = h.bit in let s = h.shows in
     let k0 = k.0 in let k1 = k.1 in let k2 = k.2 in let k3 = k.3 in
-    record {
+    let lim = h.bounded in record {
+      bounded = omega arith;
       may = 0;
       bit = omega arith;
       shows = omega arith;
@@ -76,7 +79,8 @@ whole k U e few deep = omega arith
 pub hold_lawful : (named p : ℕ) (o : Tally) → Lawful 4 named (plus o (weight (Announcing p 0 false))) → named ≤ o.undecided → o.hand ≡ 0 → units o < 1073741824 → named < 1073741824 → Lawful 8 named (plus o (weight Exclusive))
 hold_lawful named p o h swept empty few deep =
     let k = law_bits 4 named (plus o (weight (Announcing p 0 false))) h in let a = h.alone in let bt = h.bit in let s = h.shows in let k0 = k.0 in let k1 = k.1 in let k2 = k.2 in let k3 = k.3 in
-    record {
+    let lim = h.bounded in record {
+      bounded = omega arith;
       may = 0;
       bit = omega arith;
       shows = omega (arith, whole (o.hand + named) (units o) (omega arith) (omega arith) (omega arith));
@@ -89,7 +93,8 @@ hold_lawful named p o h swept empty few deep =
 pub retract_lawful : (w named p : ℕ) (o : Tally) → Lawful w named (plus o (weight (Announcing p 0 false))) → Lawful (w - 3) named (plus o (weight Away))
 retract_lawful w named p o h =
     let k = law_bits w named (plus o (weight (Announcing p 0 false))) h in let a = h.alone in let bt = h.bit in let s = h.shows in let k0 = k.0 in let k1 = k.1 in let k2 = k.2 in let k3 = k.3 in let m = h.barred (omega arith) in
-    record {
+    let lim = h.bounded in record {
+      bounded = omega arith;
       may = 1;
       bit = omega arith;
       shows = omega arith;
@@ -104,6 +109,7 @@ release_lawful w named o h =
     let a = h.alone in let s = h.shows in let is : w ≡ 8 = h.drained (omega arith) in let m = h.barred (omega arith) in (
       is,
       record {
+        bounded = omega arith;
         may = 0;
         bit = omega arith;
         shows = omega arith;

@@ -14,7 +14,7 @@ use Rattle.hall.specs.declared.view.Standing.TheVariants.{Away, Inline, Slotted,
 use Rattle.hall.specs.Cargo.{shared_mode, upgrade_mode, exclusive_mode, CargoSeat, Together, Apart, Compatible, changed_seat}
 use Rattle.view_sums.specs.Sums.{total}
 use Rattle.hall.specs.Locks.{Tally, weight, count, counts}
-use Rattle.hall.specs.Views.{mode_of, standing, after_step}
+use Rattle.hall.specs.Views.{mode_of, standing, place_of, after_step, after_step_at}
 use Rattle.hall.specs.Rule.{Formed, AllFormed, AllLawful, cargo_seat}
 use Rattle.view_sums.specs.Sums.{term_le, terms_le}
 use mathlib.Core.Logic.{dite}
@@ -23,21 +23,29 @@ use Rattle.hall.specs.declared.view.Shape.{Shape}
 use Rattle.hall.proofs.Locking.{gone}
 
 module _ {P : Type 0} where
-  pub cargo_quiet : (views : List (View P)) (id lock word : ℕ) (v : View P) (kind : Kind) (won : Bool) (y : Standing) → get_elem? views id ≡ some v → mode_of y ≡ mode_of (standing v lock)
-      → map cargo_seat (set views id (after_step v kind lock word won y v.part)) ≡ map cargo_seat views
-  cargo_quiet views id lock word v kind won y at same =
-      let w : View P = after_step v kind lock word won y v.part in
+  pub cargo_quiet_at : (views : List (View P)) (id lock place word : ℕ) (v : View P) (kind : Kind) (won : Bool) (y : Standing) → get_elem? views id ≡ some v → mode_of y ≡ mode_of (standing v lock)
+      → map cargo_seat (set views id (after_step_at v kind lock place word won y v.part)) ≡ map cargo_seat views
+  cargo_quiet_at views id lock place word v kind won y at same =
+      let w : View P = after_step_at v kind lock place word won y v.part in
       let modes : map mode_of (set v.standings lock y) ≡ map mode_of v.standings = map-set_same mode_of v.standings lock y Away same in
       let seat : cargo_seat w ≡ cargo_seat v = λ i. record { number = v.number; quota = v.quota; modes = modes i; part = v.part } in
       map-set cargo_seat views id w ∙ ap (λ (z : CargoSeat P). set (map cargo_seat views) id z) seat ∙ set_again (map cargo_seat views) id (cargo_seat v) (at_map cargo_seat views id v at)
 
-  pub cargo_changed : (views : List (View P)) (id lock word : ℕ) (v : View P) (kind : Kind) (won : Bool) (y : Standing) (m : Option Mode) (part : P) → mode_of y ≡ m
-      → map cargo_seat (set views id (after_step v kind lock word won y part)) ≡ set (map cargo_seat views) id (changed_seat (cargo_seat v) lock m part)
-  cargo_changed views id lock word v kind won y m part is =
-      let w : View P = after_step v kind lock word won y part in
+  pub cargo_quiet : (views : List (View P)) (id lock word : ℕ) (v : View P) (kind : Kind) (won : Bool) (y : Standing) → get_elem? views id ≡ some v → mode_of y ≡ mode_of (standing v lock)
+      → map cargo_seat (set views id (after_step v kind lock word won y v.part)) ≡ map cargo_seat views
+  cargo_quiet views id lock word v kind won y at same = cargo_quiet_at views id lock (place_of v lock) word v kind won y at same
+
+  pub cargo_changed_at : (views : List (View P)) (id lock place word : ℕ) (v : View P) (kind : Kind) (won : Bool) (y : Standing) (m : Option Mode) (part : P) → mode_of y ≡ m
+      → map cargo_seat (set views id (after_step_at v kind lock place word won y part)) ≡ set (map cargo_seat views) id (changed_seat (cargo_seat v) lock m part)
+  cargo_changed_at views id lock place word v kind won y m part is =
+      let w : View P = after_step_at v kind lock place word won y part in
       let modes : map mode_of (set v.standings lock y) ≡ set (map mode_of v.standings) lock m = map-set mode_of v.standings lock y ∙ ap (λ (z : Option Mode). set (map mode_of v.standings) lock z) is in
       let seat : cargo_seat w ≡ changed_seat (cargo_seat v) lock m part = λ i. record { number = v.number; quota = v.quota; modes = modes i; part = part } in
       map-set cargo_seat views id w ∙ ap (λ (z : CargoSeat P). set (map cargo_seat views) id z) seat
+
+  pub cargo_changed : (views : List (View P)) (id lock word : ℕ) (v : View P) (kind : Kind) (won : Bool) (y : Standing) (m : Option Mode) (part : P) → mode_of y ≡ m
+      → map cargo_seat (set views id (after_step v kind lock word won y part)) ≡ set (map cargo_seat views) id (changed_seat (cargo_seat v) lock m part)
+  cargo_changed views id lock word v kind won y m part is = cargo_changed_at views id lock (place_of v lock) word v kind won y m part is
 
   -- the mode of a pass is that of its standing
   pub mode_at : (v : View P) (lock : ℕ) → get_or (cargo_seat v).modes lock None ≡ mode_of (standing v lock)

@@ -66,7 +66,6 @@ module _ {C P : Type 0} (g : Ghosts C P) (plan : Plan C) (s : State (Unit {0}) (
         (subst (Lawful (get_or s.words (plan.shape.slots + lock) 0) (named_by plan.shape.slots lock s.words)) (sym (counts_same s.views id lock v after at refl)) (h.lawful lock below)));
     swept = swept_same plan.shape s.words (set s.words (base + k) n) s.views (set s.views id after) h.swept (λ j b. get_or-set_other s.words (base + k) j n 0 (λ e. omega arith)) (λ j lock. total-same (λ (u : View P). cover j (standing u lock)) s.views id v after at refl);
     slot_words = λ j b. subst (λ (z : ℕ). z ≤ plan.shape.locks) (sym (get_or-set_other s.words (base + k) j n 0 (λ e. omega arith))) (h.slot_words j b);
-    unplaced = λ j b. get_or-set_other s.words (base + k) j n 0 (λ e. omega arith) ∙ h.unplaced j b;
     trailed = record {
       present = λ j u e lock is. ⊎_elim (λ t. let F : View P → Type 0 = λ z. is_away (standing z lock) ≡ false → (strong : Bool) × Has z.trail (footprint z.number lock strong) in subst F t.1 (h.trailed.present id v at lock) is) (λ t. h.trailed.present j u t.1 lock is) (at_set s.views id j after u e);
       strongly = λ j u e lock is. ⊎_elim (λ t. let F : View P → Type 0 = λ z. is_strong (standing z lock) ≡ true → Has z.trail (footprint z.number lock true) in subst F t.1 (h.trailed.strongly id v at lock) is) (λ t. h.trailed.strongly j u t.1 lock is) (at_set s.views id j after u e);

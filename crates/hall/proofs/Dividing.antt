@@ -178,7 +178,6 @@ module _ {C P : Type 0} (g : Ghosts C P) (plan : Plan C) (s : State (Unit {0}) (
       ap (cover k) (right_away lock),
     ));
     slot_words = h.slot_words;
-    unplaced = h.unplaced;
     trailed = split_trailed;
     gone = λ j u e dead. ⊎_elim
         (λ e. ⊎_elim (λ t. absurd (let z : left.span ≡ 0 = ap (λ (y : View P). y.span) t.1 ∙ dead in omega arith)) (λ t. h.gone j u t.1 dead) (at_set s.views id j left u e))
@@ -266,7 +265,6 @@ module _ {C P : Type 0} (g : Ghosts C P) (plan : Plan C) (s : State (Unit {0}) (
       ap (cover k) (off lock),
     ));
     slot_words = h.slot_words;
-    unplaced = h.unplaced;
     trailed = record {
       present = cases (λ _ u. (lock : ℕ) → is_away (standing u lock) ≡ false → (strong : Bool) × Has u.trail (footprint u.number lock strong))
           (λ k is. let t = h.trailed.present id v at k is in (t.0, Has-behind w.trail v.trail _ t.1)) (λ k bad. absurd (cc)) (λ j u e _ _. h.trailed.present j u e);

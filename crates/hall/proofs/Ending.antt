@@ -1,5 +1,5 @@
 -- What is known of a hall that was closed.
-use Rattle.std.proofs.Common.{◌≡◌, ◌≢◌, arith, ℕ, zero, suc, ◌+◌, List, [], ◌∷◌, map, get_or, drop, sym, subst}
+use Rattle.std.proofs.Common.{◌≡◌, ◌≢◌, arith, ℕ, zero, suc, ◌+◌, List, [], ◌∷◌, length, map, get_or, drop, sym, subst, ap, length-drop}
 use mathlib.Core.Option.{some, some-injective, some-ne-none}
 use lib.ListN.{get_elem?}
 use Rattle.atomic_table.specs.Table.{Final, Seen}
@@ -28,3 +28,7 @@ ends {C} {P} g plan id base v ws xs is f =
       λ all j q e ne. let t = map_at cargo_seat f.0.views j q e in
           subst (λ (z : CargoSeat P). z.part ≡ g.spent) t.2 (h.gone j t.0 t.1 (omega (arith, terms_le width f.0.views id j v t.0 ne f.1.1 t.1, h.numbered.all))),
     )
+
+-- so many words are left as the cargo has
+pub leaves : {C P : Type 0} (g : Ghosts C P) (plan : Plan C) (id base : ℕ) (v : View P) (ws : List ℕ) (xs : List (Unit {0})) → base ≡ plan.shape.slots + plan.shape.locks → Final (Seen (Holds g plan) id v) ws xs → length (drop base ws) ≡ plan.shape.words
+leaves g plan id base v ws xs is f = let h = f.1.0 in let same : length f.0.words ≡ length ws = ap {A = List ℕ} length f.2 in omega (arith, length-drop base ws, same, h.size)

@@ -42,7 +42,7 @@ use Rattle.hall.proofs.Locking.{plus, gone, counts_same, counts_split, no_hands}
 use Rattle.hall.proofs.Cargoes.{reading_fits, writing_fits}
 use Rattle.hall.proofs.Keeps.{kept, reader_cause}
 use Rattle.hall.specs.ShownLaws.{shown_same, acts}
-use Rattle.hall.proofs.Slots.{Done}
+use Rattle.hall.proofs.Slots.{Done, cover_start}
 use Rattle.hall.proofs.Steps.{quiet, few_units, few_named, roomy, changes, gains, loses, rests}
 use Rattle.hall.proofs.Trailing.{and_right}
 
@@ -65,7 +65,7 @@ announce_clear w h = let a = both_off (upgrade_of w == 1) ((begun_of w == 1) || 
     (not_set (upgrade_of w) (omega arith) a.0, not_set (begun_of w) (omega arith) b.0, not_set (held_of w) (omega arith) b.1)
 
 -- which standings of others bar no act
-enter_open : (p : Policy) (x : Standing) → (weight x).exclusive ≤ 0 → (p ≡ WritePriority → (weight x).plain + (weight x).raised ≤ 0) → bars p act.EnterShared (role_of x) ≡ false
+pub enter_open : (p : Policy) (x : Standing) → (weight x).exclusive ≤ 0 → (p ≡ WritePriority → (weight x).plain + (weight x).raised ≤ 0) → bars p act.EnterShared (role_of x) ≡ false
 enter_open p x h calm = elim x as (λ z. (weight z).exclusive ≤ 0 → (p ≡ WritePriority → (weight z).plain + (weight z).raised ≤ 0) → bars p act.EnterShared (role_of z) ≡ false) [
   | Exclusive ↦ λ h _. absurd (omega arith)
   | Announcing q k f ↦ λ _ calm. elim p as (λ z. (z ≡ WritePriority → (weight (Announcing q k f)).plain + (weight (Announcing q k f)).raised ≤ 0) → bars z act.EnterShared (role_of (Announcing q k f)) ≡ false) [
@@ -210,7 +210,7 @@ module _ {C P : Type 0} (g : Ghosts C P) (plan : Plan C) (s : State (Unit {0}) (
       let w : View P = after_step v kinds.Enter lock word true Inline part in
       let kept : Kept (enter_of word) w = changes g plan s h id lock (enter_of word) v kinds.Enter Inline part at lives near refl (and_right (is_away (standing v lock)) false refl)
       (λ named o _ few _ law. enter_lawful word named (if is_deep word then 1 - word % 2 else 0) o (subst (λ (z : Standing). Lawful word named (plus o (weight z))) away law) held few (bump_fits word) (bump_calm word))
-      (λ k ns old cov inside _ _ sum le. let c : cover k (standing v lock) ≡ 0 = ap (cover k) away in omega (arith, c, sum, le, enter_may word (if is_deep word then 1 - word % 2 else 0) (bump_fits word)))
+      (λ k ns old cov inside _ sum le. let c : cover k (standing v lock) ≡ 0 = ap (cover k) away in omega (arith, c, sum, le, enter_may word (if is_deep word then 1 - word % 2 else 0) (bump_fits word)))
       tt refl got.2 in
       let o3 = others.3 in let o2 = others.2 in
       let move = acting w act.EnterShared Away Inline away (stands kinds.Enter word true Inline part) refl refl refl
@@ -225,8 +225,8 @@ module _ {C P : Type 0} (g : Ghosts C P) (plan : Plan C) (s : State (Unit {0}) (
   pub lowered : (standing v lock ≡ Inline) ⊎ (standing v lock ≡ Owing) → (w : View P) × Kept (lower_of word) w × GivesBack g v lock word w
   lowered inside = ⊎_elim from_inline from_owing inside
     where
-      sweeps : (x : Standing) → standing v lock ≡ x → ((k : ℕ) → cover k x ≡ 0) → (k ns old cov : ℕ) → k < plan.shape.slots → ns ≡ 0 → ns ≤ 1 → cov + cover k (standing v lock) ≡ old + 0 → ns ≤ may_defer_of word + old → ns ≤ may_defer_of (lower_of word) + cov
-      sweeps x st bare k ns old cov inside zero one sum le = let c : cover k (standing v lock) ≡ 0 = ap (cover k) st ∙ bare k in omega (arith, c, sum, le)
+      sweeps : (x : Standing) → standing v lock ≡ x → ((k : ℕ) → cover k x ≡ 0) → (k ns old cov : ℕ) → k < plan.shape.slots → ns ≤ 1 → cov + cover k (standing v lock) ≡ old + 0 → ns ≤ may_defer_of word + old → ns ≤ may_defer_of (lower_of word) + cov
+      sweeps x st bare k ns old cov inside one sum le = let c : cover k (standing v lock) ≡ 0 = ap (cover k) st ∙ bare k in omega (arith, c, sum, le)
 
       from_inline : standing v lock ≡ Inline → (w : View P) × Kept (lower_of word) w × GivesBack g v lock word w
       from_inline st =
@@ -252,13 +252,13 @@ module _ {C P : Type 0} (g : Ghosts C P) (plan : Plan C) (s : State (Unit {0}) (
 
   pub announced : standing v lock ≡ Away → conflicts_for_announcing word ≡ false → word < 18446744073709551616 → (w : View P) × Kept (announce_of word) w × Announces g v lock word w
   announced away may fits =
-      let clear = announce_clear word may in let y : Standing = Announcing v.shape.slots 0 false in
+      let clear = announce_clear word may in let y : Standing = Announcing 0 0 false in
       let others = law_bits word (named_by plan.shape.slots lock s.words) (plus (counts lock (set s.views id (gone v))) (weight Away)) (law_at Away away) in let o1 = others.1 in let o2 = others.2 in let o3 = others.3 in let c0 = clear.0 in let c1 = clear.1 in let c2 = clear.2 in
       let w : View P = after_step v kinds.Announce lock word true y v.part in
       let kept : Kept (announce_of word) w = changes g plan s h id lock (announce_of word) v kinds.Announce y v.part at lives near refl (and_right (is_away (standing v lock)) false refl)
-      (λ named o _ _ _ law. announce_lawful word named v.shape.slots o fits (subst (λ (z : Standing). Lawful word named (plus o (weight z))) away law) clear.0 clear.1 clear.2)
-      (λ k ns old cov inside zero one sum le. omega (arith, zero))
-      (omega arith, (let e : v.shape.slots ≡ plan.shape.slots = ap (λ (z : Shape). z.slots) shape in omega (arith, e))) refl
+      (λ named o _ _ _ law. announce_lawful word named 0 o fits (subst (λ (z : Standing). Lawful word named (plus o (weight z))) away law) clear.0 clear.1 clear.2)
+      (λ k ns old cov inside one sum le. let c : cover k (standing v lock) ≡ 0 = ap (cover k) away in omega (arith, c, cover_start k false, sum, one))
+      (omega arith, omega arith) refl
       (rests g plan s h id lock word v kinds.Announce y at (ap mode_of (sym away))) in
       let move = acting w act.Announce Away y away (stands kinds.Announce word true y v.part) refl refl refl
       (λ j u e ne. announce_open v.shape.policy (standing u lock) (omega (arith, each_none (λ t. t.upgrade) (omega arith) j u e ne, each_none (λ t. t.plain) (omega arith) j u e ne, each_none (λ t. t.raised) (omega arith) j u e ne, each_none (λ t. t.exclusive) (omega arith) j u e ne))) in
@@ -281,7 +281,7 @@ module _ {C P : Type 0} (g : Ghosts C P) (plan : Plan C) (s : State (Unit {0}) (
       (λ named o empty few swept_here law. held_law named plan.shape.slots o empty few
       (λ _ calm. let n = swept_here (ap may_defer_of hit) calm (swept st) in let z : (weight (standing v lock)).undecided ≡ 0 = ap (λ (z : Standing). (weight z).undecided) st in omega (arith, n, z))
       (subst (λ (z : ℕ). Lawful z named (plus o (weight x))) hit (subst (λ (z : Standing). Lawful word named (plus o (weight z))) st law)))
-      (λ k ns old cov inside zero one sum le. let past : nat_lt k plan.shape.slots ≡ true = lt-ltb k plan.shape.slots inside in
+      (λ k ns old cov inside one sum le. let past : nat_lt k plan.shape.slots ≡ true = lt-ltb k plan.shape.slots inside in
       let c : cover k (standing v lock) ≡ 0 = ap (cover k) st ∙ ap {B = ℕ} (λ (b : Bool). cond b 0 1) past in let m : may_defer_of word ≡ 0 = ap may_defer_of hit in omega (arith, c, sum, le, m))
       tt refl (subst (λ (z : ℕ). g.holds plan.cargo (drop (plan.shape.slots + plan.shape.locks) s.words) (Rattle.std.proofs.Common.map Rattle.hall.specs.Rule.cargo_seat (set s.views id (after_step v kinds.Hold lock z true Exclusive part)))) (sym hit) got.2) in
       let kept : Kept 8 w = subst (Kept 8) before kept' in
@@ -299,14 +299,14 @@ module _ {C P : Type 0} (g : Ghosts C P) (plan : Plan C) (s : State (Unit {0}) (
       let t = looks_at kinds.Hold refl fits (λ _ _. reader_cause g plan s h id lock v at near (omega (arith, readers, unit_sum (set s.views id (gone v)))) lives) in
       (after_look v kinds.Hold lock word, t.0, (found.0, t.1))
 
-  pub retracted : standing v lock ≡ Announcing plan.shape.slots 0 false → (w : View P) × Kept (bit_xor word 5) w × Retracts g v lock word w
-  retracted st =
-      let x : Standing = Announcing plan.shape.slots 0 false in let named : ℕ = named_by plan.shape.slots lock s.words in
-      let bits : word % 8 ≡ 4 = announced_bits word named plan.shape.slots (counts lock (set s.views id (gone v))) (law_at x st) in
+  pub retracted : (p : ℕ) → standing v lock ≡ Announcing p 0 false → (w : View P) × Kept (bit_xor word 5) w × Retracts g v lock word w
+  retracted p st =
+      let x : Standing = Announcing p 0 false in let named : ℕ = named_by plan.shape.slots lock s.words in
+      let bits : word % 8 ≡ 4 = announced_bits word named p (counts lock (set s.views id (gone v))) (law_at x st) in
       let w : View P = after_step v kinds.Retract lock word true Away v.part in
       let kept : Kept (retract_of word) w = changes g plan s h id lock (retract_of word) v kinds.Retract Away v.part at lives near refl (ap (λ (z : Standing). is_away z && true) st)
-      (λ named o _ few _ law. retract_lawful word named plan.shape.slots o (subst (λ (z : Standing). Lawful word named (plus o (weight z))) st law))
-      (λ k ns old cov inside zero one sum le. let on : may_defer_of (word - 3) ≡ 1 = omega arith in omega (arith, one, on))
+      (λ named o _ few _ law. retract_lawful word named p o (subst (λ (z : Standing). Lawful word named (plus o (weight z))) st law))
+      (λ k ns old cov inside one sum le. let on : may_defer_of (word - 3) ≡ 1 = omega arith in omega (arith, one, on))
       tt refl (rests g plan s h id lock word v kinds.Retract Away at (ap mode_of (sym st))) in
       let move = acting w act.Retract x Away st (stands kinds.Retract word true Away v.part) refl refl refl (λ j u e ne. refl) in
       (w, subst (λ (z : ℕ). Kept z w) (sym (retract_word word bits)) kept, (refl, moment w (retract_of word) (Some act.Retract) kept (stays kinds.Retract word true Away v.part) refl refl move))
@@ -318,7 +318,7 @@ module _ {C P : Type 0} (g : Ghosts C P) (plan : Plan C) (s : State (Unit {0}) (
       let before : after_step v kinds.Release lock word true Away part ≡ w = ap (λ (z : ℕ). after_step v kinds.Release lock z true Away part) is in
       let kept' : Kept 0 (after_step v kinds.Release lock word true Away part) = changes g plan s h id lock 0 v kinds.Release Away part at lives near refl (ap (λ (z : Standing). is_away z && true) st)
       (λ named o _ few _ law. (release_lawful word named o (subst (λ (z : Standing). Lawful word named (plus o (weight z))) st law)).1)
-      (λ k ns old cov inside zero one sum le. let c : cover k (standing v lock) ≡ 0 = ap (cover k) st in let m : may_defer_of word ≡ 0 = ap may_defer_of is in omega (arith, c, sum, le, m))
+      (λ k ns old cov inside one sum le. let c : cover k (standing v lock) ≡ 0 = ap (cover k) st in let m : may_defer_of word ≡ 0 = ap may_defer_of is in omega (arith, c, sum, le, m))
       tt refl (loses g plan s h id lock word v kinds.Release Away None at refl (subst (λ (z : Standing). Lowers (mode_of z) None) (sym st) tt) (λ _. calm)) in
       let kept : Kept 0 w = subst (Kept 0) before kept' in
       let move = acting w act.Leave Exclusive Away st (stands kinds.Release 8 true Away part) refl refl refl (λ j u e ne. refl) in

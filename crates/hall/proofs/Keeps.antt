@@ -15,7 +15,7 @@ use Rattle.state_word.specs.Words.{may_defer_of, units_of}
 use Rattle.hall.specs.Locks.{weight, Lawful, IsSeated, cover, count, counts, naming, named_by}
 use Rattle.view_sums.specs.Sums.{total}
 use Rattle.hall.specs.declared.view.Kind.TheVariants.{Hold}
-use Rattle.hall.specs.Views.{pending, footprint, is_away, is_outside, is_strong, standing, after_step}
+use Rattle.hall.specs.Views.{pending, footprint, is_away, is_outside, is_strong, standing, place_of, after_step, after_step_at}
 use Rattle.hall.specs.Trails.{is_join, Others, StrongOthers}
 use Rattle.hall.specs.Rule.{Holds, Formed, AllFormed, cargo_seat}
 use Rattle.hall.specs.NumberLaws.{numbered_same, numbers_differ}
@@ -34,9 +34,9 @@ total_lighter f (x ∷ xs) zero a z = omega (arith, z)
 total_lighter f (x ∷ xs) (suc i) a z = omega (arith, total_lighter f xs i a z)
 
 module _ {P : Type 0} where
-  formed_moved : (sh : Shape) (views : List (View P)) (id lock word : ℕ) (v : View P) (kind : Kind) (won : Bool) (y : Standing) (part : P) → AllFormed sh views → get_elem? views id ≡ some v → 0 < v.span → lock < sh.locks
-      → IsSeated sh.slots y → total pending (set v.standings lock y) ≤ 1 → AllFormed sh (set views id (after_step v kind lock word won y part))
-  formed_moved sh views id lock word v kind won y part all at lives near seat one j u e = ⊎_elim
+  pub formed_moved : (sh : Shape) (views : List (View P)) (id lock place word : ℕ) (v : View P) (kind : Kind) (won : Bool) (y : Standing) (part : P) → AllFormed sh views → get_elem? views id ≡ some v → 0 < v.span → lock < sh.locks
+      → IsSeated sh.slots y → total pending (set v.standings lock y) ≤ 1 → AllFormed sh (set views id (after_step_at v kind lock place word won y part))
+  formed_moved sh views id lock place word v kind won y part all at lives near seat one j u e = ⊎_elim
       (λ t. let f = all id v at in subst (Formed sh) t.1 record {
         shape = f.shape;
         wide = λ h. length-set v.standings lock y ∙ f.wide h;
@@ -46,7 +46,7 @@ module _ {P : Type 0} where
             (λ ne. subst (IsSeated sh.slots) (sym (get_or-set_other v.standings lock k y Away ne)) (f.seated k));
         one_pending = one;
       })
-      (λ t. all j u t.1) (at_set views id j (after_step v kind lock word won y part) u e)
+      (λ t. all j u t.1) (at_set views id j (after_step_at v kind lock place word won y part) u e)
 
   elsewhere : (v : View P) (kind : Kind) (lock word : ℕ) (won : Bool) (y : Standing) (part : P) (k : ℕ) → k ≢ lock → standing (after_step v kind lock word won y part) k ≡ standing v k
   elsewhere v kind lock word won y part k ne = get_or-set_other v.standings lock k y Away ne
@@ -137,12 +137,11 @@ module _ {C P : Type 0} (g : Ghosts C P) (plan : Plan C) (s : State (Unit {0}) (
         few = h.few;
         rationed = omega (arith, total-same (λ u. u.quota) s.views id v after at refl, h.rationed);
         counted = h.counted;
-        formed = formed_moved plan.shape s.views id lock (get_or s.words place 0) v kind won y part h.formed at lives near seat one;
+        formed = formed_moved plan.shape s.views id lock (place_of v lock) (get_or s.words place 0) v kind won y part h.formed at lives near seat one;
         numbered = numbered_same plan.shape.seats s.views id v after h.numbered at refl refl refl;
         lawful = lawful_moved plan.shape s.words s.views id lock n v after h.lawful at (elsewhere v kind lock (get_or s.words place 0) won y part) near inside now;
         swept = swept_moved plan.shape s.words s.views id lock n v after h.swept at (elsewhere v kind lock (get_or s.words place 0) won y part) near inside sweeps;
         slot_words = λ k b. subst (λ (z : ℕ). z ≤ plan.shape.locks) (sym (get_or-set_other s.words place k n 0 (λ e. omega arith))) (h.slot_words k b);
-        unplaced = λ k b. get_or-set_other s.words place k n 0 (λ e. omega arith) ∙ h.unplaced k b;
         trailed = trailed_moved plan.shape s.words s.views id lock n v kind won y part h.trailed h.formed at lives near inside steps stays shown
             (λ off bits. strong_cause g plan s h id lock v at near off bits lives)
             held

@@ -6,10 +6,14 @@ mod Racing
 mod Trailing
 mod Keeps
 mod Slots
+mod SlotTrails
+mod SlotKeeps
 mod Steps
 mod Events
 mod Upgrading
 mod Allowing
+mod SlotEvents
+mod SlotSteps
 mod UpgradeSteps
 mod Dividing
 mod Parting

@@ -57,7 +57,7 @@ module _ {C P : Type 0} (g : Ghosts C P) (plan : Plan C) where
       same_tally (part (λ t. t.shared) refl) (part (λ t. t.undecided) refl) (part (λ t. t.owing) refl) (part (λ t. t.upgrade) refl) (part (λ t. t.plain) refl) (part (λ t. t.raised) refl) (part (λ t. t.exclusive) refl) (part (λ t. t.hand) refl)
 
   law : Lawful 0 0 (weight Away)
-  law = record { may = 0; bit = omega arith; shows = refl; alone = omega arith; nobody = λ e. refl; barred = λ e. refl; drained = λ e. absurd (omega arith) }
+  law = record { bounded = omega arith; may = 0; bit = omega arith; shows = refl; alone = omega arith; nobody = λ e. refl; barred = λ e. refl; drained = λ e. absurd (omega arith) }
 
   pub opens : (n : ℕ) → n ≡ plan.shape.slots + plan.shape.locks + plan.shape.words → 0 < plan.shape.slots → plan.shape.slots ≤ 256 → 0 < plan.shape.seats → plan.shape.seats ≤ 1048576 → plan.quota < 18446744073709551616 → plan.shape.words ≡ g.word_count plan.cargo → g.admits plan.cargo plan.quota
       → Holds g plan (opening (zeros n) [] v)
@@ -74,7 +74,6 @@ module _ {C P : Type 0} (g : Ghosts C P) (plan : Plan C) where
         (subst (λ (z : ℕ). Lawful 0 z (counts lock (v ∷ []))) (sym (unnamed lock n plan.shape.slots)) (subst (Lawful 0 0) (sym (no_counts lock)) law));
     swept = λ lock near k inside. omega (arith, unnamed_slot lock n k);
     slot_words = λ k inside. omega (arith, zero_in n k);
-    unplaced = λ k inside. zero_in n k;
     trailed = record {
       present = only_one (λ u. (lock : ℕ) → is_away (standing u lock) ≡ false → (strong : Bool) × Has u.trail (footprint u.number lock strong)) v (λ k bad. let there : is_away (standing v k) ≡ true = ap is_away (off k) in absurd (cc));
       strongly = only_one (λ u. (lock : ℕ) → is_strong (standing u lock) ≡ true → Has u.trail (footprint u.number lock true)) v (λ k bad. let there : is_strong (standing v k) ≡ false = ap is_strong (off k) in absurd (cc));

@@ -1,5 +1,5 @@
 -- Tokens in slots: what the sweep has passed is covered by undecided passes, and each step on a slot keeps the counts.
-use Rattle.std.proofs.Common.{◌≡◌, ℕ, zero, suc, ◌+◌, ◌*◌, ◌%◌, ◌<◌, ◌≤◌, ◌≢◌, Bool, true, false, cond, eqb, eq-eqb, ne_eqb, nat_lt, lt-ltb, subst, List, [], ◌∷◌, get_or, sym, refl, ap, ◌∙◌, arith}
+use Rattle.std.proofs.Common.{◌≡◌, ℕ, zero, suc, ◌+◌, ◌*◌, ◌%◌, ◌<◌, ◌≤◌, ◌≢◌, Bool, true, false, cond, eqb, eq-eqb, ne_eqb, nat_lt, lt-ltb, le-ltb, subst, List, [], ◌∷◌, get_or, sym, refl, ap, ◌∙◌, arith}
 use mathlib.Core.Logic.{dite}
 use mathlib.Core.Option.{some}
 use lib.ListN.{get_elem?}
@@ -63,7 +63,7 @@ about_once x n = elim x as (λ z. below (λ k. about k z) n ≤ (weight z).undec
   | Announcing p h f ↦ omega (arith, below_none n)
 ]
 
-names_yes : (lock x : ℕ) → x ≡ lock + 1 → naming lock x ≡ 1
+pub names_yes : (lock x : ℕ) → x ≡ lock + 1 → naming lock x ≡ 1
 names_yes lock x e = ap (λ b. cond b 1 0) (eq-eqb x (lock + 1) e)
 
 pub names_no : (lock x : ℕ) → x ≢ lock + 1 → naming lock x ≡ 0
@@ -121,7 +121,7 @@ Done slots Upgrade = Unit {0}
 Done slots Exclusive = Unit {0}
 Done slots (Announcing p h f) = p ≡ slots
 
-cover_about : (k : ℕ) (x : Standing) → (weight x).plain + (weight x).raised ≤ 0 → cover k x ≤ about k x
+pub cover_about : (k : ℕ) (x : Standing) → (weight x).plain + (weight x).raised ≤ 0 → cover k x ≤ about k x
 cover_about k x h = elim x as (λ z. (weight z).plain + (weight z).raised ≤ 0 → cover k z ≤ about k z) [
   | Announcing p j f ↦ λ h. absurd (omega (arith, one_announced f))
   | _ ↦ λ h. omega arith
@@ -132,6 +132,10 @@ cover_done k slots x inside h = elim x as (λ z. Done slots z → cover k z ≤ 
   | Announcing p j f ↦ λ e. let past : nat_lt k p ≡ true = lt-ltb k p (omega (arith, e)) in omega (arith, ap {B = ℕ} (λ (b : Bool). cond b 0 1) past)
   | _ ↦ λ h. omega arith
 ] h
+
+-- who was just announced accounts for every slot
+pub cover_start : (k : ℕ) (f : Bool) → cover k (Announcing 0 0 f) ≡ 1
+cover_start k f = ap {B = ℕ} (λ (b : Bool). cond b 0 1) (le-ltb k 0 (omega arith))
 
 -- where nobody else is announced, the sweep is done and readers don't defer, each slot that names the lock is one of an undecided pass
 pub swept_done : {P : Type 0} (slots lock : ℕ) (words : List ℕ) (views : List (View P)) (id : ℕ) (v : View P) → get_elem? views id ≡ some v → IsSwept slots lock words views → may_defer_of (get_or words (slots + lock) 0) ≡ 0 → Done slots (standing v lock)
@@ -146,29 +150,34 @@ swept_done {P} slots lock words views id v at swept clear looked none = swept_na
 -- a token is placed
 pub place_lawful : (w named k : ℕ) (o : Tally) → Lawful w named (plus o (weight Away)) → units o < 1073741824 → Lawful w (named + 1) (plus o (weight (Undecided k)))
 place_lawful w named k o h few = let s = h.shows in let a = h.alone in let nob = h.nobody in let bar = h.barred in
-    record { may = h.may; bit = h.bit; shows = omega arith; alone = omega arith; nobody = λ e. omega (arith, nob (omega arith)); barred = λ e. bar (omega arith); drained = λ e. h.drained (omega arith) }
+    record { bounded = h.bounded; may = h.may; bit = h.bit; shows = omega arith; alone = omega arith; nobody = λ e. omega (arith, nob (omega arith)); barred = λ e. bar (omega arith); drained = λ e. h.drained (omega arith) }
 
 -- a check that finds deferral on
 pub check_lawful : (w named k : ℕ) (o : Tally) → Lawful w named (plus o (weight (Undecided k))) → w % 2 ≡ 1 → Lawful w named (plus o (weight (Slotted k)))
 check_lawful w named k o h on = let s = h.shows in let a = h.alone in let bar = h.barred in let b = (law_bits w named (plus o (weight (Undecided k))) h).0 in
-    record { may = h.may; bit = h.bit; shows = omega arith; alone = omega arith; nobody = λ e. absurd (omega (arith, bar (omega arith))); barred = λ e. bar (omega arith); drained = λ e. h.drained (omega arith) }
+    record { bounded = h.bounded; may = h.may; bit = h.bit; shows = omega arith; alone = omega arith; nobody = λ e. absurd (omega (arith, bar (omega arith))); barred = λ e. bar (omega arith); drained = λ e. h.drained (omega arith) }
 
 -- a token is taken back by who placed it
 pub withdraw_lawful : (w named k : ℕ) (o : Tally) → Lawful w (named + 1) (plus o (weight (Undecided k))) → units o < 1073741824 → Lawful w named (plus o (weight Away))
 withdraw_lawful w named k o h few = let s = h.shows in let a = h.alone in let nob = h.nobody in let bar = h.barred in
-    record { may = h.may; bit = h.bit; shows = omega arith; alone = omega arith; nobody = λ e. omega (arith, nob (omega arith)); barred = λ e. bar (omega arith); drained = λ e. h.drained (omega arith) }
+    record { bounded = h.bounded; may = h.may; bit = h.bit; shows = omega arith; alone = omega arith; nobody = λ e. omega (arith, nob (omega arith)); barred = λ e. bar (omega arith); drained = λ e. h.drained (omega arith) }
+
+-- a token is taken back by a reader that leaves
+pub leave_lawful : (w named k : ℕ) (o : Tally) → Lawful w (named + 1) (plus o (weight (Slotted k))) → units o < 1073741824 → Lawful w named (plus o (weight Away))
+leave_lawful w named k o h few = let s = h.shows in let a = h.alone in let nob = h.nobody in let bar = h.barred in
+    record { bounded = h.bounded; may = h.may; bit = h.bit; shows = omega arith; alone = omega arith; nobody = λ e. absurd (omega (arith, nob (omega arith))); barred = λ e. bar (omega arith); drained = λ e. h.drained (omega arith) }
 
 -- a token that was taken by another: the pass owes a unit. While the lock is held this can't be, since then each undecided pass has its token
-pub owe_lawful : (w named k : ℕ) (o : Tally) → Lawful w named (plus o (weight (Undecided k))) → named ≤ o.undecided → (o.plain + o.raised ≡ 0 → o.hand ≡ 0) → units o < 1073741824 → Lawful w named (plus o (weight Owing))
+pub owe_lawful : (w named k : ℕ) (o : Tally) → Lawful w named (plus o (weight (Undecided k))) → (1 ≤ o.exclusive → named ≤ o.undecided) → (o.plain + o.raised ≡ 0 → o.hand ≡ 0) → units o < 1073741824 → Lawful w named (plus o (weight Owing))
 owe_lawful w named k o h fewer empty few = let s = h.shows in let a = h.alone in let nob = h.nobody in let bar = h.barred in
-    record { may = h.may; bit = h.bit; shows = omega arith; alone = omega arith; nobody = λ e. let d : w ≡ 8 = h.drained (omega arith) in let m = bar (omega arith) in let hd = empty (omega arith) in absurd (omega arith); barred = λ e. bar (omega arith); drained = λ e. h.drained (omega arith) }
+    record { bounded = h.bounded; may = h.may; bit = h.bit; shows = omega arith; alone = omega arith; nobody = λ e. let d : w ≡ 8 = h.drained (omega arith) in let m = bar (omega arith) in let hd = empty (omega arith) in let n = fewer (omega arith) in absurd (omega arith); barred = λ e. bar (omega arith); drained = λ e. h.drained (omega arith) }
 
 -- a sweep takes a token
 pub pick_lawful : (w named p k : ℕ) (f : Bool) (o : Tally) → Lawful w (named + 1) (plus o (weight (Announcing p k f))) → Lawful w named (plus o (weight (Announcing (p + 1) (k + 1) f)))
 pick_lawful w named p k f o h = let s = h.shows in let a = h.alone in let nob = h.nobody in let bar = h.barred in
-    record { may = h.may; bit = h.bit; shows = omega arith; alone = omega arith; nobody = λ e. omega (arith, nob (omega arith)); barred = λ e. bar (omega arith); drained = λ e. h.drained (omega arith) }
+    record { bounded = h.bounded; may = h.may; bit = h.bit; shows = omega arith; alone = omega arith; nobody = λ e. omega (arith, nob (omega arith)); barred = λ e. bar (omega arith); drained = λ e. h.drained (omega arith) }
 
 -- a sweep adds its hand to the count
 pub add_lawful : (w named p k : ℕ) (f : Bool) (o : Tally) → Lawful w named (plus o (weight (Announcing p k f))) → Lawful ((w + 4294967296 * k) % 18446744073709551616) named (plus o (weight (Announcing p 0 f)))
 add_lawful w named p k f o h = let one = one_announced f in let s = h.shows in let a = h.alone in let nob = h.nobody in let bar = h.barred in
-    record { may = h.may; bit = h.bit; shows = omega arith; alone = omega arith; nobody = λ e. absurd (omega arith); barred = λ e. bar (omega arith); drained = λ e. absurd (omega arith) }
+    record { bounded = omega arith; may = h.may; bit = h.bit; shows = omega arith; alone = omega arith; nobody = λ e. absurd (omega arith); barred = λ e. bar (omega arith); drained = λ e. absurd (omega arith) }

@@ -1,5 +1,5 @@
 -- What all steps at a lock's word have in common.
-use Rattle.std.proofs.Common.{Option, None, ◌≡◌, ℕ, ◌+◌, ◌<◌, ◌≤◌, ◌≢◌, List, map, set, get_or, drop, true, false, ◌&&◌, sym, refl, ap, ◌∙◌, subst, arith, get_or-set_same}
+use Rattle.std.proofs.Common.{Option, None, Bool, ◌≡◌, ℕ, ◌+◌, ◌<◌, ◌≤◌, ◌≢◌, List, map, set, get_or, drop, true, false, ◌&&◌, sym, refl, ap, ◌∙◌, subst, arith, get_or-set_same}
 use Rattle.std.proofs.lemmas.List.{set-get_or}
 use mathlib.Core.Option.{some}
 use lib.ListN.{get_elem?}
@@ -17,16 +17,16 @@ use Rattle.hall.specs.declared.view.Standing.TheVariants.{Away}
 use Rattle.hall.specs.Cargo.{upgrade_mode, exclusive_mode, Compatible, Lowers}
 use Rattle.view_sums.specs.Sums.{total}
 use Rattle.state_word.specs.Words.{may_defer_of, units_of}
-use Rattle.hall.specs.Locks.{Tally, weight, Lawful, IsSeated, cover, naming, count, counts, named_by}
-use Rattle.hall.specs.Views.{pending, is_away, mode_of, standing, after_step, after_look}
+use Rattle.hall.specs.Locks.{Tally, weight, Lawful, IsSeated, cover, count, counts, named_by}
+use Rattle.hall.specs.Views.{pending, is_away, mode_of, standing, place_of, after_step, after_step_at, after_look}
 use Rattle.hall.specs.Trails.{is_join, Others}
 use Rattle.hall.specs.Rule.{Holds, cargo_seat}
-use Rattle.hall.specs.Shows.{all_units, few_tokens, room_left}
+use Rattle.hall.specs.Shows.{all_units, few_tokens, naming_one, room_left}
 use Rattle.hall.proofs.Arith.{units}
 use Rattle.hall.proofs.Locking.{plus, gone, counts_same, counts_split, no_hands}
-use Rattle.hall.proofs.Cargoes.{cargo_quiet, cargo_changed, mode_at}
+use Rattle.hall.proofs.Cargoes.{cargo_quiet, cargo_quiet_at, cargo_changed, cargo_changed_at, mode_at}
 use Rattle.hall.proofs.Keeps.{kept, total_lighter}
-use Rattle.hall.proofs.Slots.{Done, swept_done, names_no}
+use Rattle.hall.proofs.Slots.{Done, swept_done}
 use Rattle.view_sums.specs.Sums.{total-set, term_le}
 
 pub true_false : true ≡ false → ⊥
@@ -89,7 +89,7 @@ module _ {C P : Type 0} (g : Ghosts C P) (plan : Plan C) where
       → ((named : ℕ) (o : Tally) → (o.plain + o.raised ≡ 0 → o.hand ≡ 0) → units o < 1073741824
       → (may_defer_of (get_or s.words (plan.shape.slots + lock) 0) ≡ 0 → o.plain + o.raised ≡ 0 → Done plan.shape.slots (standing v lock) → named ≤ o.undecided + (weight (standing v lock)).undecided)
       → Lawful (get_or s.words (plan.shape.slots + lock) 0) named (plus o (weight (standing v lock))) → Lawful new named (plus o (weight y)))
-      → ((k ns old cov : ℕ) → k < plan.shape.slots → ns ≡ 0 → ns ≤ 1 → cov + cover k (standing v lock) ≡ old + cover k y → ns ≤ may_defer_of (get_or s.words (plan.shape.slots + lock) 0) + old → ns ≤ may_defer_of new + cov)
+      → ((k ns old cov : ℕ) → k < plan.shape.slots → ns ≤ 1 → cov + cover k (standing v lock) ≡ old + cover k y → ns ≤ may_defer_of (get_or s.words (plan.shape.slots + lock) 0) + old → ns ≤ may_defer_of new + cov)
       → IsSeated plan.shape.slots y → pending y ≡ 0
       → g.holds plan.cargo (drop (plan.shape.slots + plan.shape.locks) s.words) (map cargo_seat (set s.views id (after_step v kind lock (get_or s.words (plan.shape.slots + lock) 0) true y part)))
       → Holds g plan record { words = set s.words (plan.shape.slots + lock) new; homes = s.homes; views = set s.views id (after_step v kind lock (get_or s.words (plan.shape.slots + lock) 0) true y part) }
@@ -100,19 +100,23 @@ module _ {C P : Type 0} (g : Ghosts C P) (plan : Plan C) where
       let now : Lawful new named (plus o (weight y)) = turns named o (no_hands (set s.views id (gone v)) lock) (few_units s h id lock v at) (few_named s h id lock v at near) (subst (Lawful word named) split.0 (h.lawful lock near)) in
       kept g plan s h id lock new v kind true y part at lives near steps (λ e. absurd (true_false e)) (λ _. there) (λ _ e. absurd (true_false e)) (subst (Lawful new named) (sym (split.1 ∙ ap (λ (x : Standing). plus o (weight x)) here)) now)
       (λ k ns old cov inside is sum le.
-      let none : ns ≡ 0 = is ∙ ap (naming lock) (h.unplaced k inside) ∙ names_no lock 0 (λ e. omega (arith, e)) in
       let c : cover k (standing w lock) ≡ cover k y = ap (cover k) here in
-      sweeps k ns old cov inside none (omega (arith, none)) (omega (arith, c, sum)) le)
+      sweeps k ns old cov inside (omega (arith, is, naming_one lock (get_or s.words k 0))) (omega (arith, c, sum)) le)
       seat (omega (arith, total_lighter pending v.standings lock y calm, (h.formed id v at).one_pending)) loads
 
   -- the cargo where a mode is gained
+  pub gains_at : (s : St) (h : Holds g plan s) (id lock place word : ℕ) (v : View P) (kind : Kind) (won : Bool) (y : Standing) (m : Option Mode) → get_elem? s.views id ≡ some v → mode_of (standing v lock) ≡ None → mode_of y ≡ m → m ≢ None → Compatible (map cargo_seat s.views) id lock m
+      → (part : P) × g.gains lock (drop (plan.shape.slots + plan.shape.locks) s.words) v.part part
+      × g.holds plan.cargo (drop (plan.shape.slots + plan.shape.locks) s.words) (map cargo_seat (set s.views id (after_step_at v kind lock place word won y part)))
+  gains_at s h id lock place word v kind won y m at free is some' fits =
+      let ws : List ℕ = drop (plan.shape.slots + plan.shape.locks) s.words in
+      let t = g.gain_keeps plan.cargo ws (map cargo_seat s.views) id lock m (cargo_seat v) h.cargo (at_map cargo_seat s.views id v at) (mode_at v lock ∙ free) some' fits in
+      (t.0, t.1, subst (g.holds plan.cargo ws) (sym (cargo_changed_at s.views id lock place word v kind won y m t.0 is)) t.2)
+
   pub gains : (s : St) (h : Holds g plan s) (id lock word : ℕ) (v : View P) (kind : Kind) (y : Standing) (m : Option Mode) → get_elem? s.views id ≡ some v → mode_of (standing v lock) ≡ None → mode_of y ≡ m → m ≢ None → Compatible (map cargo_seat s.views) id lock m
       → (part : P) × g.gains lock (drop (plan.shape.slots + plan.shape.locks) s.words) v.part part
       × g.holds plan.cargo (drop (plan.shape.slots + plan.shape.locks) s.words) (map cargo_seat (set s.views id (after_step v kind lock word true y part)))
-  gains s h id lock word v kind y m at free is some' fits =
-      let ws : List ℕ = drop (plan.shape.slots + plan.shape.locks) s.words in
-      let t = g.gain_keeps plan.cargo ws (map cargo_seat s.views) id lock m (cargo_seat v) h.cargo (at_map cargo_seat s.views id v at) (mode_at v lock ∙ free) some' fits in
-      (t.0, t.1, subst (g.holds plan.cargo ws) (sym (cargo_changed s.views id lock word v kind true y m t.0 is)) t.2)
+  gains s h id lock word v kind y m at free is some' fits = gains_at s h id lock (place_of v lock) word v kind true y m at free is some' fits
 
   -- the cargo where upgrade is raised to exclusive
   pub raises : (s : St) (h : Holds g plan s) (id lock word : ℕ) (v : View P) (kind : Kind) (y : Standing) → get_elem? s.views id ≡ some v → mode_of (standing v lock) ≡ upgrade_mode → mode_of y ≡ exclusive_mode → Compatible (map cargo_seat s.views) id lock exclusive_mode
@@ -123,14 +127,22 @@ module _ {C P : Type 0} (g : Ghosts C P) (plan : Plan C) where
       (g.raise_keeps plan.cargo ws (map cargo_seat s.views) id lock (cargo_seat v) h.cargo (at_map cargo_seat s.views id v at) (mode_at v lock ∙ was) fits)
 
   -- the cargo where a mode is lost
-  pub loses : (s : St) (h : Holds g plan s) (id lock word : ℕ) (v : View P) (kind : Kind) (y : Standing) (m : Option Mode) → get_elem? s.views id ≡ some v → mode_of y ≡ m → Lowers (mode_of (standing v lock)) m → (mode_of (standing v lock) ≡ exclusive_mode → g.settled lock v.part)
-      → g.holds plan.cargo (drop (plan.shape.slots + plan.shape.locks) s.words) (map cargo_seat (set s.views id (after_step v kind lock word true y (g.lowered lock m v.part))))
-  loses s h id lock word v kind y m at is down calm =
+  pub loses_at : (s : St) (h : Holds g plan s) (id lock place word : ℕ) (v : View P) (kind : Kind) (won : Bool) (y : Standing) (m : Option Mode) → get_elem? s.views id ≡ some v → mode_of y ≡ m → Lowers (mode_of (standing v lock)) m → (mode_of (standing v lock) ≡ exclusive_mode → g.settled lock v.part)
+      → g.holds plan.cargo (drop (plan.shape.slots + plan.shape.locks) s.words) (map cargo_seat (set s.views id (after_step_at v kind lock place word won y (g.lowered lock m v.part))))
+  loses_at s h id lock place word v kind won y m at is down calm =
       let ws : List ℕ = drop (plan.shape.slots + plan.shape.locks) s.words in
-      subst (g.holds plan.cargo ws) (sym (cargo_changed s.views id lock word v kind true y m (g.lowered lock m v.part) is))
+      subst (g.holds plan.cargo ws) (sym (cargo_changed_at s.views id lock place word v kind won y m (g.lowered lock m v.part) is))
       (g.lower_keeps plan.cargo ws (map cargo_seat s.views) id lock m (cargo_seat v) h.cargo (at_map cargo_seat s.views id v at) (subst (λ (z : Option Mode). Lowers z m) (sym (mode_at v lock)) down) (λ e. calm (sym (mode_at v lock) ∙ e)))
 
+  pub loses : (s : St) (h : Holds g plan s) (id lock word : ℕ) (v : View P) (kind : Kind) (y : Standing) (m : Option Mode) → get_elem? s.views id ≡ some v → mode_of y ≡ m → Lowers (mode_of (standing v lock)) m → (mode_of (standing v lock) ≡ exclusive_mode → g.settled lock v.part)
+      → g.holds plan.cargo (drop (plan.shape.slots + plan.shape.locks) s.words) (map cargo_seat (set s.views id (after_step v kind lock word true y (g.lowered lock m v.part))))
+  loses s h id lock word v kind y m at is down calm = loses_at s h id lock (place_of v lock) word v kind true y m at is down calm
+
   -- the cargo where no mode is gained or lost
+  pub rests_at : (s : St) (h : Holds g plan s) (id lock place word : ℕ) (v : View P) (kind : Kind) (won : Bool) (y : Standing) → get_elem? s.views id ≡ some v → mode_of y ≡ mode_of (standing v lock)
+      → g.holds plan.cargo (drop (plan.shape.slots + plan.shape.locks) s.words) (map cargo_seat (set s.views id (after_step_at v kind lock place word won y v.part)))
+  rests_at s h id lock place word v kind won y at same = subst (g.holds plan.cargo (drop (plan.shape.slots + plan.shape.locks) s.words)) (sym (cargo_quiet_at s.views id lock place word v kind won y at same)) h.cargo
+
   pub rests : (s : St) (h : Holds g plan s) (id lock word : ℕ) (v : View P) (kind : Kind) (y : Standing) → get_elem? s.views id ≡ some v → mode_of y ≡ mode_of (standing v lock)
       → g.holds plan.cargo (drop (plan.shape.slots + plan.shape.locks) s.words) (map cargo_seat (set s.views id (after_step v kind lock word true y v.part)))
-  rests s h id lock word v kind y at same = subst (g.holds plan.cargo (drop (plan.shape.slots + plan.shape.locks) s.words)) (sym (cargo_quiet s.views id lock word v kind true y at same)) h.cargo
+  rests s h id lock word v kind y at same = rests_at s h id lock (place_of v lock) word v kind true y at same

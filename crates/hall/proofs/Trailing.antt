@@ -13,7 +13,7 @@ use Rattle.hall.specs.declared.view.Kind.{Kind}
 use Rattle.hall.specs.declared.view.StepEntry.{StepEntry}
 use Rattle.hall.specs.declared.view.Standing.{Standing}
 use Rattle.hall.specs.declared.view.Standing.TheVariants.{Away}
-use Rattle.hall.specs.Views.{footprint, is_away, is_outside, is_strong, footprints_left, standing, after_step}
+use Rattle.hall.specs.Views.{footprint, is_away, is_outside, is_strong, footprints_left, standing, place_of, after_step, after_step_at}
 use Rattle.lock_model.specs.Locks.{Has}
 use Rattle.state_word.specs.Words.{units_of}
 use Rattle.view_sums.specs.Sums.{same, same-refl}
@@ -61,6 +61,44 @@ module _ {P : Type 0} where
   pub StrongOthers_stay : (views : List (View P)) (id : ℕ) (v w : View P) (lock n : ℕ) → get_elem? views id ≡ some v → ((a : Footprint) → Has v.trail a → Has w.trail a) → StrongOthers views lock n → StrongOthers (set views id w) lock n
   StrongOthers_stay views id v w lock n at grows h = (h.0, IsTrodden_stays views id v w h.0 at grows h.1, h.2, h.3, h.4)
 
+-- what a step for a lock leaves in the trail, whatever word it was made on
+module _ {P : Type 0} (sh : Shape) (words : List ℕ) (views : List (View P)) (id lock place word : ℕ) (v : View P) (kind : Kind) (won : Bool) (y : Standing) (part : P) (tr : Trailed sh words views) (formed : AllFormed sh views) (at : get_elem? views id ≡ some v) (lives : 0 < v.span)
+    (near : lock < sh.locks) where
+  abbrev pub stepped : View P
+  stepped = after_step_at v kind lock place word won y part
+
+  pub trail_grows : (a : Footprint) → Has v.trail a → Has stepped.trail a
+  trail_grows a h = Has-behind (footprints_left v.number lock (standing v lock) y) v.trail a h
+
+  stands : standing stepped lock ≡ y
+  stands = let f = formed id v at in get_or-set_same v.standings lock y Away (subst (λ (k : ℕ). lock < k) (sym (f.wide lives)) near)
+
+  elsewhere : (k : ℕ) → k ≢ lock → standing stepped k ≡ standing v k
+  elsewhere k ne = get_or-set_other v.standings lock k y Away ne
+
+  pub present_now : (k : ℕ) → is_away (standing stepped k) ≡ false → (strong : Bool) × Has stepped.trail (footprint v.number k strong)
+  present_now k h =
+      dite (ℕ_discrete k lock)
+      (λ e. let y_there : is_away y ≡ false = ap is_away (sym stands) ∙ ap (λ (j : ℕ). is_away (standing stepped j)) (sym e) ∙ h in
+      subst (λ (j : ℕ). (strong : Bool) × Has stepped.trail (footprint v.number j strong)) (sym e) (is_strong (standing v lock) || is_strong y, marked_head v.number lock (standing v lock) y v.trail (and_right _ _ y_there)))
+      (λ ne. let old = tr.present id v at k (ap is_away (sym (elsewhere k ne)) ∙ h) in (old.0, trail_grows _ old.1))
+
+  pub strongly_now : (k : ℕ) → is_strong (standing stepped k) ≡ true → Has stepped.trail (footprint v.number k true)
+  strongly_now k h =
+      dite (ℕ_discrete k lock)
+      (λ e. let y_strong : is_strong y ≡ true = ap is_strong (sym stands) ∙ ap (λ (j : ℕ). is_strong (standing stepped j)) (sym e) ∙ h in
+      subst (λ (j : ℕ). Has stepped.trail (footprint v.number j true)) (sym e)
+      (subst (λ (b : Bool). Has stepped.trail (footprint v.number lock b)) (or_right (is_strong (standing v lock)) (is_strong y) y_strong)
+      (marked_head v.number lock (standing v lock) y v.trail (and_right _ _ (strong_is_there y y_strong)))))
+      (λ ne. trail_grows _ (tr.strongly id v at k (ap is_strong (sym (elsewhere k ne)) ∙ h)))
+
+  pub trodden_now : (m : Footprint) → Has stepped.trail m → (0 < v.span) × (1 ≤ owns m.number stepped)
+  trodden_now m has = (
+    lives,
+    ⊎_elim (λ is. subst (λ (z : Footprint). 1 ≤ owns z.number stepped) (sym is) (omega (arith, same-refl v.number))) (λ old. (tr.trodden id v at m old).1)
+        (left_or_old (is_away (standing v lock) && is_away y) (footprint v.number lock (is_strong (standing v lock) || is_strong y)) m v.trail has),
+  )
+
 module _ {P : Type 0} (sh : Shape) (words : List ℕ) (views : List (View P)) (id lock n : ℕ) (v : View P) (kind : Kind) (won : Bool) (y : Standing) (part : P) (tr : Trailed sh words views) (formed : AllFormed sh views) (at : get_elem? views id ≡ some v)
     (lives : 0 < v.span) (near : lock < sh.locks) (inside : sh.slots + lock < length words) (steps : is_join kind ≡ false) (kept : won ≡ false → n ≡ get_or words (sh.slots + lock) 0)
     (shown : n ≢ get_or words (sh.slots + lock) 0 → is_away (standing v lock) && is_away y ≡ false)
@@ -71,36 +109,7 @@ module _ {P : Type 0} (sh : Shape) (words : List ℕ) (views : List (View P)) (i
   after = after_step v kind lock (get_or words (sh.slots + lock) 0) won y part
 
   grows : (a : Footprint) → Has v.trail a → Has after.trail a
-  grows a h = Has-behind (footprints_left v.number lock (standing v lock) y) v.trail a h
-
-  stands : standing after lock ≡ y
-  stands = let f = formed id v at in get_or-set_same v.standings lock y Away (subst (λ (k : ℕ). lock < k) (sym (f.wide lives)) near)
-
-  elsewhere : (k : ℕ) → k ≢ lock → standing after k ≡ standing v k
-  elsewhere k ne = get_or-set_other v.standings lock k y Away ne
-
-  present_now : (k : ℕ) → is_away (standing after k) ≡ false → (strong : Bool) × Has after.trail (footprint v.number k strong)
-  present_now k h =
-      dite (ℕ_discrete k lock)
-      (λ e. let y_there : is_away y ≡ false = ap is_away (sym stands) ∙ ap (λ (j : ℕ). is_away (standing after j)) (sym e) ∙ h in
-      subst (λ (j : ℕ). (strong : Bool) × Has after.trail (footprint v.number j strong)) (sym e) (is_strong (standing v lock) || is_strong y, marked_head v.number lock (standing v lock) y v.trail (and_right _ _ y_there)))
-      (λ ne. let old = tr.present id v at k (ap is_away (sym (elsewhere k ne)) ∙ h) in (old.0, grows _ old.1))
-
-  strongly_now : (k : ℕ) → is_strong (standing after k) ≡ true → Has after.trail (footprint v.number k true)
-  strongly_now k h =
-      dite (ℕ_discrete k lock)
-      (λ e. let y_strong : is_strong y ≡ true = ap is_strong (sym stands) ∙ ap (λ (j : ℕ). is_strong (standing after j)) (sym e) ∙ h in
-      subst (λ (j : ℕ). Has after.trail (footprint v.number j true)) (sym e)
-      (subst (λ (b : Bool). Has after.trail (footprint v.number lock b)) (or_right (is_strong (standing v lock)) (is_strong y) y_strong)
-      (marked_head v.number lock (standing v lock) y v.trail (and_right _ _ (strong_is_there y y_strong)))))
-      (λ ne. grows _ (tr.strongly id v at k (ap is_strong (sym (elsewhere k ne)) ∙ h)))
-
-  trodden_now : (m : Footprint) → Has after.trail m → (0 < v.span) × (1 ≤ owns m.number after)
-  trodden_now m has = (
-    lives,
-    ⊎_elim (λ is. subst (λ (z : Footprint). 1 ≤ owns z.number after) (sym is) (omega (arith, same-refl v.number))) (λ old. (tr.trodden id v at m old).1)
-        (left_or_old (is_away (standing v lock) && is_away y) (footprint v.number lock (is_strong (standing v lock) || is_strong y)) m v.trail has),
-  )
+  grows a h = trail_grows sh words views id lock (place_of v lock) (get_or words (sh.slots + lock) 0) v kind won y part tr formed at lives near a h
 
   -- what another pass remembers
   abbrev Recalls : List ℕ → List (View P) → ℕ → ℕ → ℕ → Type 0
@@ -154,10 +163,10 @@ module _ {P : Type 0} (sh : Shape) (words : List ℕ) (views : List (View P)) (i
   pub trailed_moved : Trailed sh (set words (sh.slots + lock) n) (set views id after)
   trailed_moved = record {
     present = λ j u e k h. ⊎_elim
-        (λ t. let F : View P → Type 0 = λ z. is_away (standing z k) ≡ false → (strong : Bool) × Has z.trail (footprint z.number k strong) in subst F t.1 (present_now k) h)
+        (λ t. let F : View P → Type 0 = λ z. is_away (standing z k) ≡ false → (strong : Bool) × Has z.trail (footprint z.number k strong) in subst F t.1 (present_now sh words views id lock (place_of v lock) (get_or words (sh.slots + lock) 0) v kind won y part tr formed at lives near k) h)
         (λ t. tr.present j u t.1 k h) (at_set views id j after u e);
     strongly = λ j u e k h. ⊎_elim
-        (λ t. let F : View P → Type 0 = λ z. is_strong (standing z k) ≡ true → Has z.trail (footprint z.number k true) in subst F t.1 (strongly_now k) h)
+        (λ t. let F : View P → Type 0 = λ z. is_strong (standing z k) ≡ true → Has z.trail (footprint z.number k true) in subst F t.1 (strongly_now sh words views id lock (place_of v lock) (get_or words (sh.slots + lock) 0) v kind won y part tr formed at lives near k) h)
         (λ t. tr.strongly j u t.1 k h) (at_set views id j after u e);
     remembered = λ j u e k w below h. ⊎_elim
         (λ t. let F : View P → Type 0 = λ z. last_read (sh.slots + k) z.number z.steps ≡ Some w → Recalls (set words (sh.slots + lock) n) (set views id after) k w z.number in
@@ -170,7 +179,7 @@ module _ {P : Type 0} (sh : Shape) (words : List ℕ) (views : List (View P)) (i
         subst F t.1 (⊎_elim (λ is. subst (λ (z : StepEntry). 1 ≤ owns z.number after) (sym is) (omega (arith, same-refl v.number))) (λ old. tr.owned id v at e old)) has)
         (λ t. tr.owned j u t.1 e has) (at_set views id j after u there);
     trodden = λ j u there m has. ⊎_elim
-        (λ t. let F : View P → Type 0 = λ z. Has z.trail m → (0 < z.span) × (1 ≤ owns m.number z) in subst F t.1 (trodden_now m) has)
+        (λ t. let F : View P → Type 0 = λ z. Has z.trail m → (0 < z.span) × (1 ≤ owns m.number z) in subst F t.1 (trodden_now sh words views id lock (place_of v lock) (get_or words (sh.slots + lock) 0) v kind won y part tr formed at lives near m) has)
         (λ t. tr.trodden j u t.1 m has) (at_set views id j after u there);
     newest = λ j u there. ⊎_elim (λ t. let F : View P → Type 0 = λ z. Heads z.number z.steps in subst F t.1 refl) (λ t. tr.newest j u t.1) (at_set views id j after u there);
     counted = λ j u there e has k below place is_hold lost count. ⊎_elim

@@ -63,7 +63,7 @@ module _ {C P : Type 0} (g : Ghosts C P) (plan : Plan C) (n id : ℕ) (me : Me (
         keeps,
         tt,
         subst (λ (z : ℕ). Holds g plan record { words = set s.words place z; homes = s.homes; views = set s.views id t.0 }) (ap announce_of hit ∙ sym turns) t.1,
-        (same g plan n id me lock i is shape lives near t.0 kinds.Up x true (Announcing me.0.shape.slots 0 true) me.0.part t.2.0, λ k e. ((λ _. told g plan n id me lock i is shape lives near (AnnouncesUp g) x t.0 t.2 k e), λ ne. absurd (ne hit))),
+        (same g plan n id me lock i is shape lives near t.0 kinds.Up x true (Announcing 0 0 true) me.0.part t.2.0, λ k e. ((λ _. told g plan n id me lock i is shape lives near (AnnouncesUp g) x t.0 t.2 k e), λ ne. absurd (ne hit))),
       ))
       (λ miss. let t = looks_at g plan s h id lock me.0 at lives shape near kinds.Up refl fits (λ e. absurd (cc)) in let w : View P = after_look me.0 kinds.Up lock x in (
         w,
@@ -73,9 +73,9 @@ module _ {C P : Type 0} (g : Ghosts C P) (plan : Plan C) (n id : ℕ) (me : Me (
         (same g plan n id me lock i is shape lives near w kinds.Up x false (standing me.0 lock) me.0.part refl, λ k e. ((λ hit. absurd (miss hit)), λ _. told g plan n id me lock i is shape lives near (UpMisses g) x w t.1 k e)),
       )))
 
-  pub retracts_up : standing me.0 lock ≡ Announcing plan.shape.slots 0 true → Allows (Holds g plan) n id me i (λ x. bit_xor x 5) (At (RetractsUp g) (step n i 5 0 none) me)
-  retracts_up st = let F : ℕ → Type 0 = λ i. Allows (Holds g plan) n id me i (λ x. bit_xor x 5) (At (RetractsUp g) (step n i 5 0 none) me) in
-      subst F (sym is) (λ s h wide at fits. let x : ℕ = get_or s.words place 0 in let t = retracted_up g plan s h id lock me.0 at lives shape near st fits in
+  pub retracts_up : (p : ℕ) → standing me.0 lock ≡ Announcing p 0 true → Allows (Holds g plan) n id me i (λ x. bit_xor x 5) (At (RetractsUp g) (step n i 5 0 none) me)
+  retracts_up p st = let F : ℕ → Type 0 = λ i. Allows (Holds g plan) n id me i (λ x. bit_xor x 5) (At (RetractsUp g) (step n i 5 0 none) me) in
+      subst F (sym is) (λ s h wide at fits. let x : ℕ = get_or s.words place 0 in let t = retracted_up g plan s h id lock me.0 at lives shape near p st fits in
       (t.0, keeps, tt, t.1, (same g plan n id me lock i is shape lives near t.0 kinds.UpRetract x true Upgrade me.0.part t.2.0, told g plan n id me lock i is shape lives near (RetractsUp g) x t.0 t.2)))
 
   pub holds_up : standing me.0 lock ≡ Announcing plan.shape.slots 0 true → Allows (Holds g plan) n id me i (λ x. either (eqb x 6) 8 x) (TriedAt (HoldingUp g) (HoldMisses g) (step n i 6 8 none) me)

@@ -12,7 +12,6 @@ use Rattle.state_word.specs.Words.{may_defer_of, announce_of, retract_of, up_of,
 use Rattle.hall.specs.declared.cargo.CargoRule.{Ghosts}
 use Rattle.hall.specs.declared.view.View.{View}
 use Rattle.hall.specs.declared.view.Plan.{Plan}
-use Rattle.hall.specs.declared.view.Shape.{Shape}
 use Rattle.hall.specs.declared.view.Kind.{Kind}
 use Rattle.hall.specs.declared.view.Kind.TheVariants as kinds
 use Rattle.hall.specs.declared.view.Standing.{Standing}
@@ -32,7 +31,7 @@ use Rattle.hall.proofs.Cargoes.{upgrading_fits, writing_fits}
 use Rattle.hall.proofs.Events.{announce_clear, announce_open, hold_open, moment, acting, stands, stays, law_at, each_none, looks_at, unit_sum}
 use Rattle.hall.proofs.Keeps.{reader_cause}
 use Rattle.hall.proofs.Locking.{plus, gone, no_hands}
-use Rattle.hall.proofs.Slots.{Done}
+use Rattle.hall.proofs.Slots.{Done, cover_start}
 use Rattle.hall.proofs.Steps.{few_units, few_named, changes, gains, raises, loses, rests}
 use Rattle.hall.proofs.Upgrades.{upgrade_in_lawful, upgrade_out_lawful, upgrade_lower_lawful, up_lawful, up_retract_lawful, exclusive_shared_lawful, exclusive_upgrade_lawful, hold_up_lawful, hold_up_missed, raised_bits, up_retract_word}
 
@@ -67,7 +66,7 @@ module _ {C P : Type 0} (g : Ghosts C P) (plan : Plan C) (s : State (Unit {0}) (
   -- a step from the standing x to y that is an act of the abstract lock: left to it are the counts at its lock, the slots that are covered, the cargo, and that nobody else bars the act
   pub makes : (kind : Kind) (x y : Standing) (part : P) (new : ℕ) (a : Act) → is_join kind ≡ false → standing v lock ≡ x → is_away x && is_away y ≡ false
       → ((named : ℕ) (o : Tally) → (o.plain + o.raised ≡ 0 → o.hand ≡ 0) → units o < 1073741824 → (may_defer_of word ≡ 0 → o.plain + o.raised ≡ 0 → Done plan.shape.slots x → named ≤ o.undecided + (weight x).undecided) → Lawful word named (plus o (weight x)) → Lawful new named (plus o (weight y)))
-      → ((k ns old cov : ℕ) → k < plan.shape.slots → ns ≡ 0 → ns ≤ 1 → cov + cover k x ≡ old + cover k y → ns ≤ may_defer_of word + old → ns ≤ may_defer_of new + cov)
+      → ((k ns old cov : ℕ) → k < plan.shape.slots → ns ≤ 1 → cov + cover k x ≡ old + cover k y → ns ≤ may_defer_of word + old → ns ≤ may_defer_of new + cov)
       → IsSeated plan.shape.slots y → pending y ≡ 0
       → g.holds plan.cargo (drop (plan.shape.slots + plan.shape.locks) s.words) (map cargo_seat (set s.views id (after_step v kind lock word true y part)))
       → role_after a (role_of x) ≡ Some (role_of y)
@@ -79,7 +78,7 @@ module _ {C P : Type 0} (g : Ghosts C P) (plan : Plan C) (s : State (Unit {0}) (
       (λ named o empty few swept now. turns named o empty few
       (subst (λ (z : Standing). may_defer_of word ≡ 0 → o.plain + o.raised ≡ 0 → Done plan.shape.slots z → named ≤ o.undecided + (weight z).undecided) st swept)
       (subst (λ (z : Standing). Lawful word named (plus o (weight z))) st now))
-      (λ k ns old cov inside zero one sum le. sweeps k ns old cov inside zero one (subst (λ (z : Standing). cov + cover k z ≡ old + cover k y) st sum) le)
+      (λ k ns old cov inside one sum le. sweeps k ns old cov inside one (subst (λ (z : Standing). cov + cover k z ≡ old + cover k y) st sum) le)
       seat calm loads in (
         kept,
         moment g plan s h id lock v at lives shape near w new (Some a) kept (stays g plan s h id lock v at lives shape near kind word true y part) refl refl
@@ -93,7 +92,7 @@ module _ {C P : Type 0} (g : Ghosts C P) (plan : Plan C) (s : State (Unit {0}) (
       let got = gains g plan s h id lock word v kinds.UpgradeIn Upgrade upgrade_mode at (ap mode_of away) refl (λ e. cc) (upgrading_fits s.views id lock v at (omega arith)) in let part : P = got.0 in
       let t = makes kinds.UpgradeIn Away Upgrade part (up_of word) act.EnterUpgrade refl away refl
       (λ named o _ few _ now. upgrade_in_lawful word named o few fits now clear.0 clear.1 clear.2)
-      (λ k ns old cov inside _ _ sum le. omega arith)
+      (λ k ns old cov inside _ sum le. omega arith)
       tt refl got.2 refl
       (λ j u e ne. upgrade_open v.shape.policy (standing u lock) (omega (arith, none_of (λ t. t.upgrade) (omega arith) j u e ne, none_of (λ t. t.plain) (omega arith) j u e ne, none_of (λ t. t.raised) (omega arith) j u e ne, none_of (λ t. t.exclusive) (omega arith) j u e ne))) in
       (after_step v kinds.UpgradeIn lock word true Upgrade part, t.0, ((drop (plan.shape.slots + plan.shape.locks) s.words, part, got.1, refl), t.1))
@@ -108,7 +107,7 @@ module _ {C P : Type 0} (g : Ghosts C P) (plan : Plan C) (s : State (Unit {0}) (
       let a = (law Upgrade st).alone in let is : less_two ≡ down_of word = omega arith in
       let t = makes kinds.UpgradeOut Upgrade Away (g.lowered lock None v.part) less_two act.Leave refl st refl
       (λ named o _ few _ now. upgrade_out_lawful word named o few fits now)
-      (λ k ns old cov inside _ _ sum le. omega arith)
+      (λ k ns old cov inside _ sum le. omega arith)
       tt refl
       (loses g plan s h id lock word v kinds.UpgradeOut Away None at refl (subst (λ (z : Standing). Lowers (mode_of z) None) (sym st) tt) (λ e. absurd (upgrade_exclusive (sym (ap mode_of st) ∙ e))))
       refl (λ j u e ne. refl) in
@@ -122,7 +121,7 @@ module _ {C P : Type 0} (g : Ghosts C P) (plan : Plan C) (s : State (Unit {0}) (
       let part : P = g.lowered lock shared_mode v.part in
       let t = makes kinds.UpgradeLower Upgrade Inline part new act.UpgradeToShared refl st refl
       (λ named o _ few _ now. upgrade_lower_lawful word named o few fits now)
-      (λ k ns old cov inside _ _ sum le. omega arith)
+      (λ k ns old cov inside _ sum le. omega arith)
       tt refl
       (loses g plan s h id lock word v kinds.UpgradeLower Inline shared_mode at refl (subst (λ (z : Standing). Lowers (mode_of z) shared_mode) (sym st) tt) (λ e. absurd (upgrade_exclusive (sym (ap mode_of st) ∙ e))))
       refl (λ j u e ne. refl) in
@@ -131,23 +130,23 @@ module _ {C P : Type 0} (g : Ghosts C P) (plan : Plan C) (s : State (Unit {0}) (
 
   pub announced_up : standing v lock ≡ Upgrade → word < 18446744073709551616 → (w : View P) × Kept (announce_of word) w × AnnouncesUp g v lock word w
   announced_up st fits =
-      let a = (law Upgrade st).alone in let y : Standing = Announcing v.shape.slots 0 true in
+      let a = (law Upgrade st).alone in let y : Standing = Announcing 0 0 true in
       let t = makes kinds.Up Upgrade y v.part (announce_of word) act.Announce refl st refl
-      (λ named o _ few _ now. up_lawful word named o few fits v.shape.slots now)
-      (λ k ns old cov inside zero one sum le. omega (arith, zero))
-      (omega arith, (let e : v.shape.slots ≡ plan.shape.slots = ap (λ (z : Shape). z.slots) shape in omega (arith, e))) refl
+      (λ named o _ few _ now. up_lawful word named o few fits 0 now)
+      (λ k ns old cov inside one sum le. omega (arith, cover_start k true, sum, one))
+      (omega arith, omega arith) refl
       (rests g plan s h id lock word v kinds.Up y at (ap mode_of (sym st)))
       refl
       (λ j u e ne. announce_open v.shape.policy (standing u lock) (omega (arith, none_of (λ t. t.upgrade) (omega arith) j u e ne, none_of (λ t. t.plain) (omega arith) j u e ne, none_of (λ t. t.raised) (omega arith) j u e ne, none_of (λ t. t.exclusive) (omega arith) j u e ne))) in
       (after_step v kinds.Up lock word true y v.part, t.0, (refl, t.1))
 
-  pub retracted_up : standing v lock ≡ Announcing plan.shape.slots 0 true → word < 18446744073709551616 → (w : View P) × Kept (bit_xor word 5) w × RetractsUp g v lock word w
-  retracted_up st fits =
-      let x : Standing = Announcing plan.shape.slots 0 true in
-      let bits : word % 8 ≡ 6 = raised_bits word (named_by plan.shape.slots lock s.words) plan.shape.slots others (law x st) in
+  pub retracted_up : (p : ℕ) → standing v lock ≡ Announcing p 0 true → word < 18446744073709551616 → (w : View P) × Kept (bit_xor word 5) w × RetractsUp g v lock word w
+  retracted_up p st fits =
+      let x : Standing = Announcing p 0 true in
+      let bits : word % 8 ≡ 6 = raised_bits word (named_by plan.shape.slots lock s.words) p others (law x st) in
       let t = makes kinds.UpRetract x Upgrade v.part (retract_of word) act.Retract refl st refl
-      (λ named o _ few _ now. up_retract_lawful word named o few fits plan.shape.slots now)
-      (λ k ns old cov inside zero one sum le. let on : may_defer_of (word - 3) ≡ 1 = omega arith in omega (arith, one, on))
+      (λ named o _ few _ now. up_retract_lawful word named o few fits p now)
+      (λ k ns old cov inside one sum le. let on : may_defer_of (word - 3) ≡ 1 = omega arith in omega (arith, one, on))
       tt refl
       (rests g plan s h id lock word v kinds.UpRetract Upgrade at (ap mode_of (sym st)))
       refl (λ j u e ne. refl) in
@@ -160,7 +159,7 @@ module _ {C P : Type 0} (g : Ghosts C P) (plan : Plan C) (s : State (Unit {0}) (
       let Told : ℕ → Type 0 = λ z. Kept 4294967296 (after_step v kinds.ExclusiveShared lock z true Inline part) × Moment g v (after_step v kinds.ExclusiveShared lock z true Inline part) lock z 4294967296 (Some act.ExclusiveToShared) in
       let t : Told 8 = subst Told is (makes kinds.ExclusiveShared Exclusive Inline part 4294967296 act.ExclusiveToShared refl st refl
       (λ named o _ few _ now. (exclusive_shared_lawful word named o now few).1)
-      (λ k ns old cov inside _ _ sum le. omega (arith, m))
+      (λ k ns old cov inside _ sum le. omega (arith, m))
       tt refl
       (loses g plan s h id lock word v kinds.ExclusiveShared Inline shared_mode at refl (subst (λ (z : Standing). Lowers (mode_of z) shared_mode) (sym st) tt) (λ _. calm))
       refl (λ j u e ne. refl)) in
@@ -173,7 +172,7 @@ module _ {C P : Type 0} (g : Ghosts C P) (plan : Plan C) (s : State (Unit {0}) (
       let Told : ℕ → Type 0 = λ z. Kept 2 (after_step v kinds.ExclusiveUpgrade lock z true Upgrade part) × Moment g v (after_step v kinds.ExclusiveUpgrade lock z true Upgrade part) lock z 2 (Some act.ExclusiveToUpgrade) in
       let t : Told 8 = subst Told is (makes kinds.ExclusiveUpgrade Exclusive Upgrade part 2 act.ExclusiveToUpgrade refl st refl
       (λ named o _ few _ now. (exclusive_upgrade_lawful word named o now).1)
-      (λ k ns old cov inside _ _ sum le. omega (arith, m))
+      (λ k ns old cov inside _ sum le. omega (arith, m))
       tt refl
       (loses g plan s h id lock word v kinds.ExclusiveUpgrade Upgrade upgrade_mode at refl (subst (λ (z : Standing). Lowers (mode_of z) upgrade_mode) (sym st) tt) (λ _. calm))
       refl (λ j u e ne. refl)) in
@@ -193,7 +192,7 @@ module _ {C P : Type 0} (g : Ghosts C P) (plan : Plan C) (s : State (Unit {0}) (
       let Told : ℕ → Type 0 = λ z. Kept 8 (after_step v kinds.Hold lock z true Exclusive v.part) × Moment g v (after_step v kinds.Hold lock z true Exclusive v.part) lock z 8 (Some act.TakeExclusive) in
       let t : Told 6 = subst Told hit (makes kinds.Hold x Exclusive v.part 8 act.TakeExclusive refl st refl
       (λ named o empty few swept now. hold_up_lawful named plan.shape.slots o empty few (λ calm. swept clear calm refl) (subst (λ (z : ℕ). Lawful z named (plus o (weight x))) hit now))
-      (λ k ns old cov inside _ _ sum le. let c : cover k x ≡ 0 = ap {B = ℕ} (λ (b : Bool). cond b 0 1) (lt-ltb k plan.shape.slots inside) in omega (arith, c, sum, le, clear))
+      (λ k ns old cov inside _ sum le. let c : cover k x ≡ 0 = ap {B = ℕ} (λ (b : Bool). cond b 0 1) (lt-ltb k plan.shape.slots inside) in omega (arith, c, sum, le, clear))
       tt refl
       (raises g plan s h id lock word v kinds.Hold Exclusive at (ap mode_of st) refl (writing_fits s.views id lock v at (omega arith)))
       refl

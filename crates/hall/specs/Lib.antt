@@ -1,5 +1,7 @@
+pub mod Calls
 pub mod Cargo
 pub mod Closing
+pub mod Fitting
 pub mod Locks
 pub mod Moves
 pub mod NumberLaws
@@ -12,7 +14,11 @@ pub mod Refusals
 pub mod Rule
 pub mod ShownLaws
 pub mod Shows
+pub mod SlotLaws
+pub mod Slotting
 pub mod Trails
+pub mod Treading
 pub mod UpgradeLaws
 pub mod Upgrading
 pub mod Views
+pub mod Widths

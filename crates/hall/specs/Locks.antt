@@ -33,8 +33,9 @@ weight Exclusive = tally 0 0 0 0 0 0 1 0
 weight (Announcing p h f) = tally 0 0 0 0 (cond f 0 1) (cond f 1 0) 0 h
 
 -- The word of a lock with these counts, where so many slots name it: the four bits, and the inline count together with the hands and the slots is the number of readers.
--- It is taken round 2^64, so that the count may be negative.
+-- It is taken round 2^64, so that the count may be negative; the word itself is one of 64 bits.
 pub record Lawful (w named : ℕ) (t : Tally) : Type 0 where
+  pub bounded : w < 18446744073709551616
   pub may : ℕ
   pub bit : may ≤ 1
   pub shows : (w + 4294967296 * (t.hand + named)) % 18446744073709551616 ≡ may + 2 * (t.upgrade + t.raised) + 4 * (t.plain + t.raised) + 8 * t.exclusive + 4294967296 * (t.shared + t.undecided + t.owing)

@@ -43,17 +43,21 @@ after_act l seat None = Some l
 after_act l seat (Some a) = after_event l seat a
 
 module _ {C P : Type 0} (g : Ghosts C P) where
-  -- The moment of a step on a lock's word: the rule held before it and holds after it, it found this word and left that one, and it changed this pass's view alone.
+  -- The moment of a step for a lock, on the word at a place of the table: the rule held before it and holds after it, it found this word and left that one, and it changed this pass's view alone.
   -- At its lock it is this act of the abstract lock, allowed there, and no other lock moves.
-  pub record Moment (v w : View P) (lock found left : ℕ) (act : Option Act) : Type 0 where
+  pub record MomentAt (v w : View P) (lock place found left : ℕ) (act : Option Act) : Type 0 where
     pub plan : Plan C
     pub state : State (Unit {0}) (View P)
     pub id : ℕ
     pub shape : plan.shape ≡ v.shape
     pub near : lock < plan.shape.locks
     pub mine : get_elem? state.views id ≡ some v
-    pub finds : slice_index state.words (v.shape.slots + lock) ≡ found
+    pub finds : slice_index state.words place ≡ found
     pub before : Holds g plan state
-    pub after : Holds g plan record { words = slice_set state.words (v.shape.slots + lock) left; homes = state.homes; views = slice_set state.views id w }
+    pub after : Holds g plan record { words = slice_set state.words place left; homes = state.homes; views = slice_set state.views id w }
     pub moves : after_act (lock_shown v.shape.policy lock state.views) v.number act ≡ Some (lock_shown v.shape.policy lock (slice_set state.views id w))
     pub elsewhere : (k : ℕ) → k ≢ lock → shown k (slice_set state.views id w) ≡ shown k state.views
+
+  -- the same on the lock's own word
+  abbrev pub Moment : View P → View P → ℕ → ℕ → ℕ → Option Act → Type 0
+  Moment v w lock found left act = MomentAt v w lock (v.shape.slots + lock) found left act

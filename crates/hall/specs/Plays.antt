@@ -93,9 +93,9 @@ module _ {C P : Type 0} (g : Ghosts C P) where
   abbrev pub GivesBack : View P → ℕ → ℕ → View P → Type 0
   GivesBack v lock found w = (w ≡ after_step v kinds.Lower lock found true Away (lowered_part (standing v lock) lock v.part)) × Moment g v w lock found (lower_of found) (lowered_act (standing v lock))
 
-  -- a writer was announced. No slot is written yet, so its sweep is done at once
+  -- a writer was announced, and has looked at no slot yet
   abbrev pub Announces : View P → ℕ → ℕ → View P → Type 0
-  Announces v lock seen w = (w ≡ after_step v kinds.Announce lock seen true (Announcing v.shape.slots 0 false) v.part) × Moment g v w lock seen (announce_of seen) (Some Announce)
+  Announces v lock seen w = (w ≡ after_step v kinds.Announce lock seen true (Announcing 0 0 false) v.part) × Moment g v w lock seen (announce_of seen) (Some Announce)
 
   abbrev pub AnnounceMisses : View P → ℕ → ℕ → View P → Type 0
   AnnounceMisses = Looks kinds.Announce

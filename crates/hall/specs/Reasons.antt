@@ -86,7 +86,7 @@ module _ {C P : Type 0} (g : Ghosts C P) (v w : View P) (lock found left : ℕ) 
     others =
         let look : View P = after_look v kind lock found in
         let at_look : get_elem? (slice_set m.state.views m.id w) m.id ≡ some look = here ∙ ap some is in
-        let got : StrongOthers (slice_set m.state.views m.id w) lock v.number = m.after.trailed.excused m.id look at_look (record { number = v.number; kind = kind; place = v.shape.slots + lock; before = standing v lock; word = found; won = false }) (inl refl) lock m.near place_is outside bits in
+        let got : StrongOthers (slice_set m.state.views m.id w) lock v.number = m.after.trailed.excused m.id look at_look (record { number = v.number; kind = kind; lock = lock; place = v.shape.slots + lock; before = standing v lock; word = found; won = false }) (inl refl) lock m.near place_is outside bits in
         subst (λ (z : View P). StrongOthers (slice_set m.state.views m.id w) lock z.number) (sym is) got;
   }
 
@@ -102,7 +102,7 @@ module _ {C P : Type 0} (g : Ghosts C P) (v w : View P) (lock found left : ℕ) 
     others =
         let look : View P = after_look v kind lock found in
         let at_look : get_elem? (slice_set m.state.views m.id w) m.id ≡ some look = here ∙ ap some is in
-        let got : Others (slice_set m.state.views m.id w) lock v.number = m.after.trailed.counted m.id look at_look (record { number = v.number; kind = kind; place = v.shape.slots + lock; before = standing v lock; word = found; won = false }) (inl refl) lock m.near place_is held refl count in
+        let got : Others (slice_set m.state.views m.id w) lock v.number = m.after.trailed.counted m.id look at_look (record { number = v.number; kind = kind; lock = lock; place = v.shape.slots + lock; before = standing v lock; word = found; won = false }) (inl refl) lock m.near place_is held refl count in
         subst (λ (z : View P). Others (slice_set m.state.views m.id w) lock z.number) (sym is) got;
   }
 

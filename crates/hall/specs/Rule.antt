@@ -50,8 +50,6 @@ module _ {C P : Type 0} (g : Ghosts C P) where
     pub lawful : AllLawful plan.shape s.words s.views
     pub swept : AllSwept plan.shape s.words s.views
     pub slot_words : (k : ℕ) → k < plan.shape.slots → slice_index s.words k ≤ plan.shape.locks
-    -- no slot is written yet
-    pub unplaced : (k : ℕ) → k < plan.shape.slots → slice_index s.words k ≡ 0
     pub trailed : Trailed plan.shape s.words s.views
     -- of a pass that was taken in nothing is left
     pub gone : (j : ℕ) (v : View P) → get_elem? s.views j ≡ some v → v.span ≡ 0 → v.part ≡ g.spent

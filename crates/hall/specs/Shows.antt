@@ -13,7 +13,7 @@ use Rattle.lock_model.specs.declared.model.Role.TheVariants as role
 use Rattle.lock_model.specs.declared.model.Mode.TheVariants.{Shared}
 use Rattle.lock_model.specs.declared.model.Mode.TheVariants as mode
 use Rattle.hall.specs.declared.view.Shape.{Shape}
-use Rattle.state_word.specs.Words.{may_defer_of, upgrade_of, begun_of, held_of, units_of}
+use Rattle.state_word.specs.Words.{may_defer_of, upgrade_of, begun_of, held_of, idle_of, units_of}
 use Rattle.view_sums.specs.Sums.{total, total-le, total-plus, find, term_le, terms_le}
 use Rattle.hall.specs.declared.cargo.CargoRule.{Ghosts}
 use Rattle.hall.specs.declared.view.View.{View}
@@ -48,6 +48,12 @@ module _ {P : Type 0} where
 abbrev pub CountsUnits : ℕ → ℕ → Tally → Type 0
 CountsUnits w named t = ((units_of w < 2147483648) × (units_of w + (t.hand + named) ≡ t.shared + t.undecided + t.owing)) ⊎ ((2147483648 ≤ units_of w) × (units_of w + (t.hand + named) ≡ 4294967296 + (t.shared + t.undecided + t.owing)))
 
+-- A word has 64 bits, of which 4 to 31 are 0. Its count is no greater than there may be seats, and no less than there may be hands and tokens.
+pub record IsStateWord (w : ℕ) : Type 0 where
+  pub bounded : w < 18446744073709551616
+  pub idle : idle_of w ≡ 0
+  pub count : (units_of w ≤ 1048576) ⊎ (4294967296 ≤ units_of w + 512)
+
 module _ {P : Type 0} where
   -- while readers don't defer, each slot that names the lock has a pass that is undecided about it, or an announced writer that hasn't looked at it
   abbrev pub AccountsForSlots : ℕ → ℕ → List ℕ → List (View P) → Type 0
@@ -55,6 +61,7 @@ module _ {P : Type 0} where
 
   -- what holds of a lock between any two steps
   pub record LockShows (slots lock : ℕ) (words : List ℕ) (views : List (View P)) : Type 0 where
+    pub formed : IsStateWord (slice_index words (slots + lock))
     pub shows : ShowsLawfulLock views lock (slice_index words (slots + lock))
     pub units : CountsUnits (slice_index words (slots + lock)) (named_by slots lock words) (counts lock views)
     pub slots_known : AccountsForSlots slots lock words views
@@ -113,9 +120,16 @@ roles_fit x y h = elim x as (λ z. Apart z y → fits (role_of z) (role_of y) �
       | _ ↦ λ _. refl
     ] h
 
-units_whole : (w named : ℕ) (t : Tally) → Lawful w named t → w < 18446744073709551616 → t.hand + named ≤ 512 → t.shared + t.undecided + t.owing ≤ 1048576 → CountsUnits w named t
-units_whole w named t l fits tokens few = let s = l.shows in let b = l.bit in let a = l.alone in
+units_whole : (w named : ℕ) (t : Tally) → Lawful w named t → t.hand + named ≤ 512 → t.shared + t.undecided + t.owing ≤ 1048576 → CountsUnits w named t
+units_whole w named t l tokens few = let lim = l.bounded in let s = l.shows in let b = l.bit in let a = l.alone in
     dite (dec_lt (units_of w) 2147483648) (λ low. inl (low, omega arith)) (λ high. inr (omega arith, omega arith))
+
+word_formed : (w named : ℕ) (t : Tally) → Lawful w named t → t.hand + named ≤ 512 → t.shared + t.undecided + t.owing ≤ 1048576 → IsStateWord w
+word_formed w named t l tokens few = let lim = l.bounded in let s = l.shows in let b = l.bit in let a = l.alone in record {
+  bounded = lim;
+  idle = omega arith;
+  count = dite (dec_lt (units_of w) 2147483648) (λ low. inl (omega arith)) (λ high. inr (omega arith));
+}
 
 one_unit : (x : Standing) → (weight x).shared + (weight x).undecided + (weight x).owing ≤ 1
 one_unit x = elim x as (λ z. (weight z).shared + (weight z).undecided + (weight z).owing ≤ 1) [ Announcing p k f ↦ omega arith | _ ↦ omega arith ]
@@ -125,7 +139,7 @@ few_of u f lock = dite (dec_lt 0 u.span) (λ living. omega (arith, one_unit (sta
     (λ dead. let none : standing u lock ≡ Away = ap (λ (l : List Standing). get_or l lock Away) (f.spent (omega arith)).0 in
     let z : (weight (standing u lock)).shared + (weight (standing u lock)).undecided + (weight (standing u lock)).owing ≡ 0 = ap (λ (x : Standing). (weight x).shared + (weight x).undecided + (weight x).owing) none in omega arith)
 
-naming_one : (lock x : ℕ) → naming lock x ≤ 1
+pub naming_one : (lock x : ℕ) → naming lock x ≤ 1
 naming_one lock x = elim (eqb x (lock + 1)) as (λ b. cond b 1 0 ≤ 1) [ true ↦ omega arith | false ↦ omega arith ]
 
 below_most : (n : ℕ) (f : ℕ → ℕ) → ((k : ℕ) → f k ≤ 1) → below f n ≤ n
@@ -208,7 +222,7 @@ roles_count x = elim x as (λ z. (upgrades (role_of z) ≡ (weight z).upgrade) �
   | _ ↦ (refl, refl, refl, omega arith)
 ]
 
-module _ {C P : Type 0} (g : Ghosts C P) (plan : Plan C) (s : State (Unit {0}) (View P)) (h : Holds g plan s) (lock : ℕ) (near : lock < plan.shape.locks) (small : slice_index s.words (plan.shape.slots + lock) < 18446744073709551616) where
+module _ {C P : Type 0} (g : Ghosts C P) (plan : Plan C) (s : State (Unit {0}) (View P)) (h : Holds g plan s) (lock : ℕ) (near : lock < plan.shape.locks) where
   abbrev word : ℕ
   word = slice_index s.words (plan.shape.slots + lock)
 
@@ -264,7 +278,8 @@ module _ {C P : Type 0} (g : Ghosts C P) (plan : Plan C) (s : State (Unit {0}) (
   rule_shows =
       let l = h.lawful lock near in let bits = law_bits word named (counts lock s.views) l in let b0 = bits.0 in let b2 = bits.2 in let b3 = bits.3 in record {
         shows = shows_lawful;
-        units = units_whole word named (counts lock s.views) l small (few_tokens g plan s h lock near) (all_units g plan s h lock);
+        formed = word_formed word named (counts lock s.views) l (few_tokens g plan s h lock near) (all_units g plan s h lock);
+        units = units_whole word named (counts lock s.views) l (few_tokens g plan s h lock near) (all_units g plan s h lock);
         slots_known = λ clear k inside names.
             let one : naming lock (slice_index s.words k) ≡ 1 = ap {B = ℕ} (λ (b : Bool). cond b 1 0) (eq-eqb (slice_index s.words k) (lock + 1) names) in
             let t = find (λ v. cover k (standing v lock)) s.views (omega (arith, h.swept lock near k inside, one, clear)) in (t.0, t.1, t.2, t.3);

@@ -31,9 +31,9 @@ module _ {C P : Type 0} (g : Ghosts C P) where
   abbrev pub LowersUpgrade : View P → ℕ → ℕ → View P → Type 0
   LowersUpgrade v lock found w = (w ≡ after_step v kinds.UpgradeLower lock found true Inline (g.lowered lock shared_mode v.part)) × Moment g v w lock found (to_shared_of found) (Some act.UpgradeToShared)
 
-  -- an upgrade holder was announced as a writer, and holds upgrade still. No slot is written yet, so its sweep is done at once
+  -- an upgrade holder was announced as a writer, and holds upgrade still. It has looked at no slot yet
   abbrev pub AnnouncesUp : View P → ℕ → ℕ → View P → Type 0
-  AnnouncesUp v lock seen w = (w ≡ after_step v kinds.Up lock seen true (Announcing v.shape.slots 0 true) v.part) × Moment g v w lock seen (announce_of seen) (Some act.Announce)
+  AnnouncesUp v lock seen w = (w ≡ after_step v kinds.Up lock seen true (Announcing 0 0 true) v.part) × Moment g v w lock seen (announce_of seen) (Some act.Announce)
 
   abbrev pub UpMisses : View P → ℕ → ℕ → View P → Type 0
   UpMisses = Looks g kinds.Up

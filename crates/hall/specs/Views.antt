@@ -79,22 +79,31 @@ module _ {P : Type 0} where
   abbrev pub place_of : View P → ℕ → ℕ
   place_of v lock = v.shape.slots + lock
 
-  abbrev pub entry_of : View P → Kind → ℕ → ℕ → Bool → StepEntry
-  entry_of v kind lock word won = record { number = v.number; kind = kind; place = place_of v lock; before = standing v lock; word = word; won = won }
+  -- a step for a lock, on the word at a place of the table
+  abbrev pub entry_at : View P → Kind → ℕ → ℕ → ℕ → Bool → StepEntry
+  entry_at v kind lock place word won = record { number = v.number; kind = kind; lock = lock; place = place; before = standing v lock; word = word; won = won }
 
-  -- the view after a step on a lock's word that leaves the standing y there, and the part
-  abbrev pub after_step : View P → Kind → ℕ → ℕ → Bool → Standing → P → View P
-  after_step v kind lock word won y part = record {
+  -- the same on the lock's own word
+  abbrev pub entry_of : View P → Kind → ℕ → ℕ → Bool → StepEntry
+  entry_of v kind lock word won = entry_at v kind lock (place_of v lock) word won
+
+  -- the view after a step for a lock, on the word at a place of the table, that leaves the standing y at the lock, and the part
+  abbrev pub after_step_at : View P → Kind → ℕ → ℕ → ℕ → Bool → Standing → P → View P
+  after_step_at v kind lock place word won y part = record {
     shape = v.shape;
     number = v.number;
     span = v.span;
     taken = v.taken;
     quota = v.quota;
     standings = slice_set v.standings lock y;
-    steps = entry_of v kind lock word won ∷ v.steps;
+    steps = entry_at v kind lock place word won ∷ v.steps;
     trail = footprints_left v.number lock (standing v lock) y ++ v.trail;
     part = part;
   }
+
+  -- the same on the lock's own word
+  abbrev pub after_step : View P → Kind → ℕ → ℕ → Bool → Standing → P → View P
+  after_step v kind lock word won y part = after_step_at v kind lock (place_of v lock) word won y part
 
   -- the view after a step that found a word and changed nothing
   abbrev pub after_look : View P → Kind → ℕ → ℕ → View P
@@ -109,7 +118,7 @@ module _ {P : Type 0} where
     taken = v.taken;
     quota = v.quota - quota;
     standings = v.standings;
-    steps = record { number = v.number; kind = Split; place = 0; before = Away; word = 0; won = false } ∷ v.steps;
+    steps = record { number = v.number; kind = Split; lock = 0; place = 0; before = Away; word = 0; won = false } ∷ v.steps;
     trail = v.trail;
     part = part;
   }
@@ -137,7 +146,7 @@ module _ {P : Type 0} where
     taken = (w.number, w.span) ∷ (w.taken ++ v.taken);
     quota = v.quota + w.quota;
     standings = v.standings;
-    steps = record { number = v.number; kind = Join; place = 0; before = Away; word = 0; won = false } ∷ (w.steps ++ v.steps);
+    steps = record { number = v.number; kind = Join; lock = 0; place = 0; before = Away; word = 0; won = false } ∷ (w.steps ++ v.steps);
     trail = w.trail ++ v.trail;
     part = part;
   }
@@ -155,7 +164,7 @@ module _ {P : Type 0} where
     taken = v.taken;
     quota = v.quota - used;
     standings = v.standings;
-    steps = record { number = v.number; kind = kind; place = place; before = Away; word = word; won = won } ∷ v.steps;
+    steps = record { number = v.number; kind = kind; lock = 0; place = place; before = Away; word = word; won = won } ∷ v.steps;
     trail = v.trail;
     part = part;
   }

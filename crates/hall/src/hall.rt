@@ -1,5 +1,5 @@
 //! The table of a hall, its passes, and the steps on its state words.
-ghost use Rattle.std.specs.Prelude.{◌≡◌, ◌≢◌, ◌+◌, ◌<◌, ◌^◌, ◌⊎◌, [], false, MatchResult};
+ghost use Rattle.std.specs.Prelude.{◌≡◌, ◌≢◌, ℕ, ◌+◌, ◌<◌, ◌^◌, ◌⊎◌, [], false, MatchResult};
 ghost use Rattle.state_word.specs.Words.{units_of, upgrade_of, begun_of, held_of};
 ghost use Rattle.hall.specs.declared.view.Standing.TheVariants.{Away, Inline, Owing, Exclusive, Announcing};
 ghost use Rattle.hall.specs.Views.{standing};
@@ -86,6 +86,14 @@ impl<C: Cargo> Hall<C> {
         ensures { result ≡ (shape_of self.now).policy }
     {
         self.policy
+    }
+
+    /// How many slots there are.
+    pub fn slots(&self) -> u64
+        ensures value { result ≡ (shape_of self.now).slots }
+        ensures low { result < 2 ^ 32 }
+    {
+        self.slots
     }
 
     pub(crate) fn place(&self, lock: u64) -> usize
@@ -189,11 +197,12 @@ impl<C: Cargo> Hall<C> {
         }
     }
 
-    /// Takes an announcement back. It answers the word that it found.
+    /// Takes an announcement back, at whatever place its sweep stands, with no unit in its hand. It answers the word that
+    /// it found.
     pub fn retract(&self, pass: &mut Pass<C>, lock: u64) -> Word
         requires pass { IsPassOf self.now pass.old }
         requires lock { lock < (shape_of self.now).locks }
-        requires announced { standing (view pass.old) lock ≡ Announcing (shape_of self.now).slots 0 false }
+        requires announced { (place : ℕ) × (standing (view pass.old) lock ≡ Announcing place 0 false) }
         ensures pass { IsPassOf self.now pass.new }
         ensures step { Retracts C.CargoRule (view pass.old) lock result (view pass.new) }
     {

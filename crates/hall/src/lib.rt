@@ -14,18 +14,28 @@
 //! | `load` | any | reads it | the same |
 //! | `enter` | away | exchange: count + 1, third reader sets MAY_DEFER | inline |
 //! | `lower` | inline, owing | count - 1 | away |
-//! | `announce` | away | exchange: sets BEGUN, clears MAY_DEFER | announcing |
+//! | `announce` | away | exchange: sets BEGUN, clears MAY_DEFER | announcing, at slot 0 |
 //! | `hold` | announcing, swept | exchange: BEGUN alone becomes HELD | exclusive |
-//! | `retract` | announcing | clears BEGUN, sets MAY_DEFER | away |
+//! | `retract` | announcing, hand empty | clears BEGUN, sets MAY_DEFER | away |
 //! | `release` | exclusive | clears HELD | away |
 //! | `upgrade_in` | away | exchange: sets UPGRADE | upgrade |
 //! | `upgrade_out` | upgrade | clears UPGRADE | away |
 //! | `upgrade_lower` | upgrade | clears UPGRADE, count + 1 | inline |
-//! | `up` | upgrade | exchange: sets BEGUN, clears MAY_DEFER | announcing from upgrade |
-//! | `up_retract` | announcing from upgrade | clears BEGUN, sets MAY_DEFER | upgrade |
+//! | `up` | upgrade | exchange: sets BEGUN, clears MAY_DEFER | announcing from upgrade, at slot 0 |
+//! | `up_retract` | announcing from upgrade, hand empty | clears BEGUN, sets MAY_DEFER | upgrade |
 //! | `hold_from_upgrade` | announcing from upgrade, swept | exchange: BEGUN and UPGRADE alone become HELD | exclusive |
 //! | `exclusive_shared` | exclusive | clears HELD, count + 1 | inline |
 //! | `exclusive_upgrade` | exclusive | clears HELD, sets UPGRADE | upgrade |
+//! | `check` | undecided | reads it | with MAY_DEFER slotted, else the same |
+//! | `add_hand` | announcing | count + hand | announcing, hand empty |
+//!
+//! | Event | From | Step on the word of a slot | To |
+//! |---|---|---|---|
+//! | `place_slot` | away, nothing pending | exchange: 0 becomes the lock's name | undecided |
+//! | `withdraw_slot` | undecided | exchange: the lock's name becomes 0 | away; where it failed owing |
+//! | `leave_slot` | slotted | exchange: the lock's name becomes 0 | away; where it failed inline |
+//! | `look` | announcing | reads it | at the next slot, unless it names the lock |
+//! | `pick` | announcing | exchange: the lock's name becomes 0 | at the next slot; where it succeeded with one more in the hand |
 #![tactic(auto)]
 
 pub mod cargo;
@@ -39,6 +49,7 @@ pub mod no_cargo;
 mod passes;
 pub mod plays;
 pub mod rule;
+mod slotting;
 #[cfg(test)]
 mod tests;
 mod upgrade;

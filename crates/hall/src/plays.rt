@@ -162,6 +162,89 @@ impl<C: CargoRule> Play<(), View<C::Part>> for ExclusiveUpgradePlay<C> {
     ghost then = { At (LowersToUpgrade C.CargoRule) };
 }
 
+pub struct PlaceSlotPlay<C> {
+    marker: PhantomData<C>,
+}
+
+impl<C: CargoRule> Play<(), View<C::Part>> for PlaceSlotPlay<C> {
+    ghost use Rattle.hall.specs.Slotting.{PlacedAt, PlacesToken, FindsTaken};
+
+    ghost then = { PlacedAt (PlacesToken C.CargoRule) (FindsTaken C.CargoRule) };
+}
+
+pub struct WithdrawSlotPlay<C> {
+    marker: PhantomData<C>,
+}
+
+impl<C: CargoRule> Play<(), View<C::Part>> for WithdrawSlotPlay<C> {
+    ghost use Rattle.hall.specs.Slotting.{ClearedAt, Withdraws, Owes};
+
+    ghost then = { ClearedAt (Withdraws C.CargoRule) (Owes C.CargoRule) };
+}
+
+pub struct LeaveSlotPlay<C> {
+    marker: PhantomData<C>,
+}
+
+impl<C: CargoRule> Play<(), View<C::Part>> for LeaveSlotPlay<C> {
+    ghost use Rattle.hall.specs.Slotting.{ClearedAt, LeavesSlot, IsInline};
+
+    ghost then = { ClearedAt (LeavesSlot C.CargoRule) (IsInline C.CargoRule) };
+}
+
+pub struct PickPlay<C> {
+    marker: PhantomData<C>,
+}
+
+impl<C: CargoRule> Play<(), View<C::Part>> for PickPlay<C> {
+    ghost use Rattle.hall.specs.Slotting.{ClearedAt, PicksToken, FindsCleared};
+
+    ghost then = { ClearedAt (PicksToken C.CargoRule) (FindsCleared C.CargoRule) };
+}
+
+pub struct CheckPlay<C> {
+    marker: PhantomData<C>,
+}
+
+impl<C: CargoRule> Play<(), View<C::Part>> for CheckPlay<C> {
+    ghost use Rattle.hall.specs.Plays.{At};
+    ghost use Rattle.hall.specs.Slotting.{Checks};
+
+    ghost then = { At (Checks C.CargoRule) };
+}
+
+pub struct AddHandPlay<C> {
+    marker: PhantomData<C>,
+}
+
+impl<C: CargoRule> Play<(), View<C::Part>> for AddHandPlay<C> {
+    ghost use Rattle.hall.specs.Plays.{At};
+    ghost use Rattle.hall.specs.Slotting.{AddsHand};
+
+    ghost then = { At (AddsHand C.CargoRule) };
+}
+
+/// For which lock a sweep loads a slot's word: neither the step nor its place says it. The call picks it.
+pub trait ForLock {
+    ghost use Rattle.std.specs.Prelude.{ℕ};
+
+    ghost lock: { ℕ };
+}
+
+impl ForLock for Brand {
+    ghost lock = { 0 };
+}
+
+pub struct LookPlay<K, C> {
+    marker: PhantomData<(K, C)>,
+}
+
+impl<K: ForLock, C: CargoRule> Play<(), View<C::Part>> for LookPlay<K, C> {
+    ghost use Rattle.hall.specs.Slotting.{LookedAt, LooksAtSlot};
+
+    ghost then = { LookedAt K.lock (LooksAtSlot C.CargoRule) };
+}
+
 /// How many numbers and how much of the quota a split gives. The call picks them.
 pub trait Cut {
     ghost use Rattle.std.specs.Prelude.{ℕ};

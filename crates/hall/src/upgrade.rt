@@ -1,6 +1,6 @@
 //! Upgrade mode, and the ways from a stronger hold of a lock to a weaker one: each is one step, and no moment lies
 //! between in which the pass holds nothing.
-ghost use Rattle.std.specs.Prelude.{◌≡◌, ◌≢◌, ◌+◌, ◌<◌, false, true, MatchResult};
+ghost use Rattle.std.specs.Prelude.{◌≡◌, ◌≢◌, ℕ, ◌+◌, ◌<◌, false, true, MatchResult};
 ghost use Rattle.hall.specs.declared.view.Standing.TheVariants.{Away, Upgrade, Exclusive, Announcing};
 ghost use Rattle.hall.specs.Plays.{conflicts_for_announcing, HoldMisses};
 ghost use Rattle.hall.specs.Upgrading.{ShowsUpgrade, TakesUpgrade, UpgradeMisses, LeavesUpgrade, LowersUpgrade, AnnouncesUp, UpMisses, RetractsUp, HoldingUp, LowersToShared, LowersToUpgrade};
@@ -92,11 +92,12 @@ impl<C: Cargo> Hall<C> {
         }
     }
 
-    /// Takes an announcement from upgrade back: the pass holds upgrade as before. It answers the word that it found.
+    /// Takes an announcement from upgrade back, at whatever place its sweep stands, with no unit in its hand: the pass
+    /// holds upgrade as before. It answers the word that it found.
     pub fn up_retract(&self, pass: &mut Pass<C>, lock: u64) -> Word
         requires pass { IsPassOf self.now pass.old }
         requires lock { lock < (shape_of self.now).locks }
-        requires announced { standing (view pass.old) lock ≡ Announcing (shape_of self.now).slots 0 true }
+        requires announced { (place : ℕ) × (standing (view pass.old) lock ≡ Announcing place 0 true) }
         ensures pass { IsPassOf self.now pass.new }
         ensures step { RetractsUp C.CargoRule (view pass.old) lock result (view pass.new) }
     {

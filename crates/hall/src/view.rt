@@ -69,9 +69,11 @@ pub struct StepEntry {
     /// The number of the pass that made it.
     pub number: u64,
     pub kind: Kind,
+    /// The lock that it was made for, on its state word or on a slot. A step on a cargo word, a split and a join have 0.
+    pub lock: u64,
     /// Which word of the table it was made on. A split and a join have 0.
     pub place: u64,
-    /// The pass's standing at its lock before it.
+    /// The pass's standing at that lock before it. A step on a cargo word, a split and a join have `Away`.
     pub before: Standing,
     /// The word that it found; of a store, the word that it wrote.
     pub word: u64,

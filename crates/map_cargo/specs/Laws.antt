@@ -1,6 +1,6 @@
 -- The laws of the cargo: gaining, lowering, splitting and joining keep one history.
 use Rattle.std.specs.Prelude.{◌≡◌, ◌≢◌, ℕ, ◌+◌, ◌*◌, ◌<◌, ◌≤◌, ◌^◌, ◌⊎◌, cond, eqb, nat_lt, true, false, List, [], ◌∷◌, ◌++◌, length, drop, slice_index, slice_index_or, slice_set, Option, Some, None}
-use Rattle.std.proofs.Common.{suc, zero, sym, refl, ap, ◌∙◌, subst, ⊎_elim, inl, inr, eq-eqb, ne_eqb, arith, get_or-set_other, get_or-drop, le-ltb}
+use Rattle.std.proofs.Common.{suc, zero, sym, refl, ap, ◌∙◌, subst, ⊎_elim, inl, inr, eq-eqb, ne_eqb, arith, get_or-set_other, get_or-drop}
 use Rattle.std.proofs.lemmas.List.{get_or-take, length-take}
 use mathlib.Core.Option.{some, some-injective, some-ne-none}
 use mathlib.Core.Logic.{dite}
@@ -21,8 +21,9 @@ use Rattle.map_cargo.specs.declared.entry.Entry.{Entry}
 use Rattle.map_cargo.specs.declared.entry.Told.{Told}
 use Rattle.map_cargo.specs.declared.entry.Told.TheVariants.{Wrote}
 use Rattle.map_cargo.specs.declared.entry.Part.{Part}
-use Rattle.map_cargo.specs.Cells.{width, number_place, log_place, word_count, cell_words, Means, lookup}
+use Rattle.map_cargo.specs.Cells.{width, number_place, log_place, word_count, cell_words, AreRowsOf, Means, lookup}
 use Rattle.map_cargo.specs.Entries.{queries, log_words}
+use Rattle.map_cargo.specs.Rows.{rows_in, used_at, IsUsed, sum_of_rows}
 use Rattle.map_cargo.specs.History.{Seat, Stands, is_wrote, stored, mode_at, words_of, plain_of, Knows, Each, OneHistory, learnt, Learns, IsSettled, IsRested, first_part, split_part, joined_part, max_of}
 
 module _ {A : Type 0} (d : A) where
@@ -55,16 +56,27 @@ not_beside (Some Exclusive) x ne t e = let bad : false ≡ true = subst (Togethe
 zero_words : (n : ℕ) (ws : List ℕ) (p i : ℕ) → ((k : ℕ) → slice_index ws k ≡ 0) → i < n → slice_index (Rattle.std.specs.Prelude.take n (drop p ws)) i ≡ 0
 zero_words n ws p i none low = get_or-take n (drop p ws) i 0 low ∙ get_or-drop p ws i 0 ∙ none (p + i)
 
+no_sum : (f : ℕ → ℕ) (n : ℕ) → ((r : ℕ) → r < n → f r ≡ 0) → sum_of_rows f n ≡ 0
+no_sum f zero none = refl
+no_sum f (suc n) none = let x = no_sum f n (λ r low. none r (omega arith)) in let y = none n (omega arith) in omega arith
+
 -- words that are all 0 mean the map without keys
 empty : (words : List ℕ) → ((i : ℕ) → i < length words → slice_index words i ≡ 0) → slice_index words 0 ≡ 0 → Means words no_keys
-empty words none first = record {
-  count = first;
-  fits = omega arith;
-  used = λ r low. none (3 * r + 1) low ∙ sym (ap (λ b. cond b 1 0) (le-ltb r 0 (omega arith)));
-  there = λ r bad. absurd (omega arith);
-  only = λ key value bad. absurd (cc);
-  distinct = λ r s bad. absurd (omega arith);
-}
+unfolding AreRowsOf
+empty words none first =
+    let unused : (r : ℕ) → r < rows_in words → used_at words r ≡ 0 = λ r low. none (3 * r + 1) (omega arith) in let no : (r : ℕ) → IsUsed (rows_in words) words r → ⊥ = λ r u. (let x = unused r u.below in let y = u.marked in omega arith) in record {
+      count = first;
+      rows = record {
+        holds = record {
+          marks = λ r low. (let x = unused r low in omega arith);
+          many = no_sum (used_at words) (rows_in words) unused;
+          there = λ r u. absurd (no r u);
+          only = λ key value bad. absurd (cc);
+          distinct = λ r s u. absurd (no r u);
+        };
+        reached = λ r i u. absurd (no r u);
+      };
+    }
 
 pub Has-split : {A : Type 0} (xs ys : List A) (a : A) → Has (xs ++ ys) a → Has xs a ⊎ Has ys a
 Has-split [] ys a h = inr h

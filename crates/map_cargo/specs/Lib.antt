@@ -6,3 +6,6 @@ pub mod Steps
 pub mod StepLaws
 pub mod Licences
 pub mod Gaining
+pub mod Probes
+pub mod Rows
+pub mod Examples

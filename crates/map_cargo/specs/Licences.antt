@@ -1,7 +1,8 @@
 -- Which replies without a place may be told: those of a lock that refused, where the reads that refuse are among the steps that were made.
-use Rattle.std.specs.Prelude.{◌≡◌, ◌⊎◌, ℕ, ◌<◌, ◌≤◌, ◌∷◌, ◌++◌, false, List}
+use Rattle.std.specs.Prelude.{◌≡◌, ◌≢◌, ◌⊎◌, ℕ, ◌<◌, ◌≤◌, ◌∷◌, ◌++◌, true, false, List}
 use Rattle.std.proofs.Common.{inl, inr, ⊎_elim}
 use Rattle.lock_model.specs.Locks.{Has}
+use Rattle.hall.specs.declared.view.Footprint.{Footprint}
 use Rattle.hall.specs.declared.view.Kind.TheVariants.{Load}
 use Rattle.hall.specs.declared.view.Shape.{Shape}
 use Rattle.hall.specs.declared.view.Standing.TheVariants.{Away}
@@ -32,6 +33,18 @@ Licensed shape number steps (TryPut cell key value) reply = BusyBy reply (BusyFo
 Licensed shape number steps (GetBy cell key deadline) reply = LateBy deadline reply (BusyForReading shape number steps cell ⊎ ReadTwoWords shape number steps cell)
 Licensed shape number steps (PutBy cell key value deadline) reply = LateBy deadline reply (BusyForWriting shape number steps cell ⊎ ReadTwoWords shape number steps cell)
 Licensed shape number steps query reply = ⊥
+
+-- who was refused met somebody: this trail has a footprint of another number at the query's cell, and a strong one where the query only looks at the cell and doesn't wait
+abbrev pub WasMet : ℕ → List Footprint → Query → Type 0
+WasMet number trail (TryGet cell key) = (m : Footprint) × Has trail m × (m.lock ≡ cell) × (m.number ≢ number) × (m.strong ≡ true)
+WasMet number trail (TryPut cell key value) = (m : Footprint) × Has trail m × (m.lock ≡ cell) × (m.number ≢ number)
+WasMet number trail (GetBy cell key deadline) = (m : Footprint) × Has trail m × (m.lock ≡ cell) × (m.number ≢ number)
+WasMet number trail (PutBy cell key value deadline) = (m : Footprint) × Has trail m × (m.lock ≡ cell) × (m.number ≢ number)
+WasMet number trail query = ⊥
+
+-- where such reads were made of cells below this, somebody was met
+abbrev pub MetWhoRefused : Shape → List StepEntry → List Footprint → Type 0
+MetWhoRefused shape steps trail = (number : ℕ) (query : Query) (reply : Reply) → ((cell : ℕ) → Has (named_cells query) cell → cell < shape.locks) → Licensed shape number steps query reply → WasMet number trail query
 
 busy_more : (reply : Reply) (R S : Type 0) → (R → S) → BusyBy reply R → BusyBy reply S
 busy_more reply R S more h = elim reply as (λ r. BusyBy r R → BusyBy r S) [ Busy ↦ λ h. more h | _ ↦ λ h. absurd h ] h

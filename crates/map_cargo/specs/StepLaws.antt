@@ -76,14 +76,14 @@ pub one_store_more : (v u x : View Part) (c : MapCargo) (w k : ℕ) (e : Entry) 
 unfolding row_stores
 one_store_more v u x c w k e number shape so_far is =
     let now : StepEntry = cargo_step v StoreCargo (log_place c w k) (slice_index (log_words e) k) true in
-    let same : cargo_step u StoreCargo (log_place c w k) (slice_index (log_words e) k) true ≡ now = λ i. record { number = number i; kind = StoreCargo; place = (shape i).slots + (shape i).locks + log_place c w k; before = Away; word = slice_index (log_words e) k; won = true } in
+    let same : cargo_step u StoreCargo (log_place c w k) (slice_index (log_words e) k) true ≡ now = λ i. record { number = number i; kind = StoreCargo; lock = 0; place = (shape i).slots + (shape i).locks + log_place c w k; before = Away; word = slice_index (log_words e) k; won = true } in
     rw add-one (is ∙ ap (λ (s : StepEntry). s ∷ u.steps) same ∙ ap (λ (l : List StepEntry). now ∷ l) so_far)
 
 -- the place and the number of a step hang on the pass's number and the hall alone
 pub same_stores : (v u : View Part) (c : MapCargo) (w k : ℕ) (e : Entry) → u.number ≡ v.number → u.shape ≡ v.shape → row_stores u c w e k ≡ row_stores v c w e k
 unfolding row_stores
 same_stores v u c w zero e number shape = refl
-same_stores v u c w (suc k) e number shape = λ i. record { number = number i; kind = StoreCargo; place = (shape i).slots + (shape i).locks + log_place c w k; before = Away; word = slice_index (log_words e) k; won = true } ∷ same_stores v u c w k e number shape i
+same_stores v u c w (suc k) e number shape = λ i. record { number = number i; kind = StoreCargo; lock = 0; place = (shape i).slots + (shape i).locks + log_place c w k; before = Away; word = slice_index (log_words e) k; won = true } ∷ same_stores v u c w k e number shape i
 
 pub drawn_steps : (v u w : View Part) (c : MapCargo) (n : ℕ) (e : Entry) → u.number ≡ v.number → u.shape ≡ v.shape → u.steps ≡ cargo_step v AddCargo (number_place c) n true ∷ v.steps → w.steps ≡ row_stores u c n e 8 ++ u.steps
     → w.steps ≡ row_stores v c n e 8 ++ (cargo_step v AddCargo (number_place c) n true ∷ v.steps)

@@ -53,7 +53,7 @@ pub record Alike (v w : View Part) : Type 0 where
 
 -- a step of the pass on a word of the cargo, which has its place behind all slots and locks
 abbrev pub cargo_step : View Part → Kind → ℕ → ℕ → Bool → StepEntry
-cargo_step v kind place word won = record { number = v.number; kind = kind; place = v.shape.slots + v.shape.locks + place; before = Away; word = word; won = won }
+cargo_step v kind place word won = record { number = v.number; kind = kind; lock = 0; place = v.shape.slots + v.shape.locks + place; before = Away; word = word; won = won }
 
 -- the stores of the first k words of log row w, the newest first
 unfoldable pub row_stores : View Part → MapCargo → ℕ → Entry → ℕ → List StepEntry

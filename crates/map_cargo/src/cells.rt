@@ -1,14 +1,18 @@
 //! Reading and writing the words of a cell that is held.
 //!
-//! A cell has its length and then its rows, of three words each: used (0 or 1), key and value. The first rows are used,
-//! one for each key, in no order; the search for a key looks at each of them.
-ghost use Rattle.std.specs.Prelude.{◌≡◌, ◌≢◌, ◌<◌, ◌≤◌, ◌∷◌, ℕ, length, slice_index, Some, None, MatchResult, MatchOption};
+//! A cell has its length and then its rows, of three words each: used (0 or 1), key and value. The search for a key begins
+//! at its home and goes up from row to row, as far as the key's row or one that isn't used: each row from a key's home up
+//! to its row is used. A deletion closes the gap that it makes.
+ghost use Rattle.std.specs.Prelude.{◌≡◌, ◌≢◌, ◌<◌, ◌∷◌, ◌++◌, ℕ, List, length, slice_index, slice_set, Some, None, MatchResult, MatchOption, IfSome};
 ghost use Rattle.hall.specs.Cargo.{exclusive_mode};
 ghost use Rattle.hall.specs.Passes.{view, IsPassOf, cargo_of};
 ghost use Rattle.hall.specs.Views.{standing, mode_of};
+ghost use Rattle.hall.specs.declared.view.StepEntry.{StepEntry};
 ghost use Rattle.query_rules.specs.Maps.{PlainMap, with_value, without};
-ghost use Rattle.map_cargo.specs.Cells.{width, key_at, Means};
+ghost use Rattle.map_cargo.specs.Cells.{width, Means};
 ghost use Rattle.map_cargo.specs.History.{words_of};
+ghost use Rattle.map_cargo.specs.Probes.{loaded, Probes, Sought, Ends};
+ghost use Rattle.map_cargo.specs.Rows.{home, key_at, value_in, IsUsed, Passed, Table, Closing, WithRow, Moved, IsNext, Closes, Removed};
 ghost use Rattle.map_cargo.specs.Steps.{Suits, Alike, Reworded, rewrote};
 
 use crate::size::MapCargo;
@@ -63,6 +67,7 @@ fn word_by<K: Spot>(hall: &Hall<MapCargo>, pass: &mut Pass<MapCargo>, cell: u64,
     ensures pass { IsPassOf hall.now pass.new × Alike (view pass.old) (view pass.new) }
     ensures part { (view pass.new).part ≡ (view pass.old).part }
     ensures word { result ≡ slice_index (words_of (view pass.old).part cell) index }
+    ensures step { (view pass.new).steps ≡ loaded (cargo_of hall.now) (view pass.old) cell index result ∷ (view pass.old).steps }
     ensures length { length (words_of (view pass.old).part cell) ≡ width (cargo_of hall.now) }
 {
     let first = cell * hall.cargo().width();
@@ -79,6 +84,7 @@ pub(crate) fn word(hall: &Hall<MapCargo>, pass: &mut Pass<MapCargo>, cell: u64, 
     ensures pass { IsPassOf hall.now pass.new × Alike (view pass.old) (view pass.new) }
     ensures part { (view pass.new).part ≡ (view pass.old).part }
     ensures word { result ≡ slice_index (words_of (view pass.old).part cell) index }
+    ensures step { (view pass.new).steps ≡ loaded (cargo_of hall.now) (view pass.old) cell index result ∷ (view pass.old).steps }
     ensures length { length (words_of (view pass.old).part cell) ≡ width (cargo_of hall.now) }
 {
     word_by::<Brand>(hall, pass, cell, index)
@@ -119,7 +125,8 @@ pub(crate) fn set_word(
     requires index { index < width (cargo_of hall.now) }
     requires held { mode_of (standing (view pass.old) cell) ≡ exclusive_mode }
     ensures pass { IsPassOf hall.now pass.new × Alike (view pass.old) (view pass.new) }
-    ensures part { (view pass.new).part ≡ rewrote (view pass.old).part cell index value }
+    ensures words { words_of (view pass.new).part cell ≡ slice_set (words_of (view pass.old).part cell) index value }
+    ensures part { Reworded cell (view pass.old).part (view pass.new).part }
     ensures length { length (words_of (view pass.old).part cell) ≡ width (cargo_of hall.now) }
 {
     set_word_by::<Brand>(hall, pass, cell, index, value);
@@ -138,9 +145,20 @@ pub fn len(hall: &Hall<MapCargo>, pass: &mut Pass<MapCargo>, cell: u64) -> u64
     word(hall, pass, cell, 0)
 }
 
-/// The row of a key, where it has one, and how many rows there are.
-#[tactic(auto, using(crate::specs::StepLaws::alike_none, crate::specs::StepLaws::alike_then))]
-fn find(hall: &Hall<MapCargo>, pass: &mut Pass<MapCargo>, cell: u64, key: u64) -> (Option<u64>, u64)
+/// Where a key is, or where the search for it ended.
+#[derive(Clone, Copy)]
+pub(crate) enum Search {
+    /// In this row.
+    Here(u64),
+    /// Nowhere, and this is the first row up from its home that isn't used.
+    Free(u64),
+    /// Nowhere, and each row is used.
+    Nowhere,
+}
+
+// Looks for a key, from its home on.
+#[tactic(auto, using(crate::specs::StepLaws::alike_then))]
+fn find(hall: &Hall<MapCargo>, pass: &mut Pass<MapCargo>, cell: u64, key: u64) -> Search
     requires pass { IsPassOf hall.now pass.old }
     requires suits { Suits hall.now }
     requires cell { cell < (cargo_of hall.now).cells }
@@ -148,22 +166,28 @@ fn find(hall: &Hall<MapCargo>, pass: &mut Pass<MapCargo>, cell: u64, key: u64) -
     requires whole { (m : PlainMap) × Means (words_of (view pass.old).part cell) m }
     ensures pass { IsPassOf hall.now pass.new × Alike (view pass.old) (view pass.new) }
     ensures part { (view pass.new).part ≡ (view pass.old).part }
-    ensures count { (result.1 ≡ slice_index (words_of (view pass.old).part cell) 0) × (result.1 ≤ (cargo_of hall.now).rows) }
     ensures length { length (words_of (view pass.old).part cell) ≡ width (cargo_of hall.now) }
-    ensures row { MatchOption result.0 ((row : ℕ) → row < result.1 → key_at (words_of (view pass.old).part cell) row ≢ key) (λ row. (row < result.1) × (key_at (words_of (view pass.old).part cell) row ≡ key)) }
+    ensures ends { Ends (cargo_of hall.now).rows (words_of (view pass.old).part cell) key result }
+    ensures loads { (added : List StepEntry) × ((view pass.new).steps ≡ added ++ (view pass.old).steps) × Sought (cargo_of hall.now) (view pass.old) cell key result added }
 {
-    let count = word(hall, pass, cell, 0);
-    let mut row = 0;
-    while row < count {
-        if word(hall, pass, cell, 3 * row + 2) == key {
-            return (Some(row), count);
+    let rows = hall.cargo().rows;
+    let mut row = hall.cargo().home(key);
+    let mut walked = 0;
+    while walked < rows {
+        if word(hall, pass, cell, 3 * row + 1) == 0 {
+            return Search::Free(row);
         }
-        row += 1;
+        if word(hall, pass, cell, 3 * row + 2) == key {
+            return Search::Here(row);
+        }
+        row = hall.cargo().row_above(row);
+        walked += 1;
     }
-    (None, count)
+    Search::Nowhere
 }
 
-/// The value of a key in a cell, which the pass holds in any mode. It looks at up to as many rows as the cell has keys.
+/// The value of a key in a cell, which the pass holds in any mode. It looks at the rows from the key's home on, as far as
+/// the key's or one that isn't used.
 #[tactic(auto, using(crate::specs::StepLaws::alike_then))]
 pub fn get(hall: &Hall<MapCargo>, pass: &mut Pass<MapCargo>, cell: u64, key: u64) -> Option<u64>
     requires pass { IsPassOf hall.now pass.old }
@@ -174,10 +198,12 @@ pub fn get(hall: &Hall<MapCargo>, pass: &mut Pass<MapCargo>, cell: u64, key: u64
     ensures pass { IsPassOf hall.now pass.new × Alike (view pass.old) (view pass.new) }
     ensures part { (view pass.new).part ≡ (view pass.old).part }
     ensures got { (m : PlainMap) → Means (words_of (view pass.old).part cell) m → result ≡ m.value_at key }
+    ensures loads { (added : List StepEntry) × ((view pass.new).steps ≡ added ++ (view pass.old).steps) × Probes (cargo_of hall.now) (view pass.old) cell key (home (cargo_of hall.now).rows key) (cargo_of hall.now).rows result added }
 {
     match find(hall, pass, cell, key) {
-        (Some(row), _) => Some(word(hall, pass, cell, 3 * row + 3)),
-        (None, _) => None,
+        Search::Here(row) => Some(word(hall, pass, cell, 3 * row + 3)),
+        Search::Free(_) => None,
+        Search::Nowhere => None,
     }
 }
 
@@ -188,7 +214,8 @@ pub struct CellFull {
 }
 
 /// Gives a key this value in a cell that the pass holds exclusively, and answers the value before. `CellFull` comes exactly
-/// where the key is absent and each row is used; then nothing is changed. It looks at up to as many rows as the cell has keys.
+/// where the key is absent and each row is used; then nothing is changed. It looks at the rows from the key's home on, as far
+/// as the key's or one that isn't used.
 pub fn put(
     hall: &Hall<MapCargo>,
     pass: &mut Pass<MapCargo>,
@@ -206,27 +233,118 @@ pub fn put(
     ensures put { (m : PlainMap) → Means (words_of (view pass.old).part cell) m → MatchResult result (λ before. (before ≡ m.value_at key) × (before ≡ None → m.count < (cargo_of hall.now).rows) × Means (words_of (view pass.new).part cell) (with_value m key value)) (λ full. (full.rows ≡ (cargo_of hall.now).rows) × (m.value_at key ≡ None) × (m.count ≡ (cargo_of hall.now).rows) × (view pass.new).part ≡ (view pass.old).part) }
 {
     match find(hall, pass, cell, key) {
-        (Some(row), _) => {
+        Search::Here(row) => {
             let before = word(hall, pass, cell, 3 * row + 3);
             set_word(hall, pass, cell, 3 * row + 3, value);
             Ok(Some(before))
         }
-        (None, count) => {
-            let rows = hall.cargo().rows;
-            if count == rows {
-                return Err(CellFull { rows });
-            }
-            set_word(hall, pass, cell, 3 * count + 1, 1);
-            set_word(hall, pass, cell, 3 * count + 2, key);
-            set_word(hall, pass, cell, 3 * count + 3, value);
+        Search::Free(row) => {
+            let count = word(hall, pass, cell, 0);
+            set_row(hall, pass, cell, row, key, value);
             set_word(hall, pass, cell, 0, count + 1);
             Ok(None)
         }
+        Search::Nowhere => Err(CellFull {
+            rows: hall.cargo().rows,
+        }),
     }
 }
 
-/// Removes a key from a cell that the pass holds exclusively, and answers the value that it had; the last row moves into the
-/// gap. `None` changes nothing. It looks at up to as many rows as the cell has keys.
+// Makes a row used, by this key with this value.
+fn set_row(
+    hall: &Hall<MapCargo>,
+    pass: &mut Pass<MapCargo>,
+    cell: u64,
+    row: u64,
+    key: u64,
+    value: u64,
+)
+    requires pass { IsPassOf hall.now pass.old }
+    requires suits { Suits hall.now }
+    requires cell { cell < (cargo_of hall.now).cells }
+    requires row { row < (cargo_of hall.now).rows }
+    requires held { mode_of (standing (view pass.old) cell) ≡ exclusive_mode }
+    ensures pass { IsPassOf hall.now pass.new × Alike (view pass.old) (view pass.new) }
+    ensures part { Reworded cell (view pass.old).part (view pass.new).part }
+    ensures row { WithRow (words_of (view pass.old).part cell) (words_of (view pass.new).part cell) row 1 key value }
+{
+    set_word(hall, pass, cell, 3 * row + 1, 1);
+    set_word(hall, pass, cell, 3 * row + 2, key);
+    set_word(hall, pass, cell, 3 * row + 3, value);
+}
+
+// Moves a row into a gap: its own place is the gap.
+fn move_row(hall: &Hall<MapCargo>, pass: &mut Pass<MapCargo>, cell: u64, from: u64, gap: u64)
+    requires pass { IsPassOf hall.now pass.old }
+    requires suits { Suits hall.now }
+    requires cell { cell < (cargo_of hall.now).cells }
+    requires from { from < (cargo_of hall.now).rows }
+    requires gap { gap < (cargo_of hall.now).rows }
+    requires held { mode_of (standing (view pass.old) cell) ≡ exclusive_mode }
+    ensures pass { IsPassOf hall.now pass.new × Alike (view pass.old) (view pass.new) }
+    ensures part { Reworded cell (view pass.old).part (view pass.new).part }
+    ensures moved { Moved (words_of (view pass.old).part cell) (words_of (view pass.new).part cell) from gap }
+{
+    let key = word(hall, pass, cell, 3 * from + 2);
+    let value = word(hall, pass, cell, 3 * from + 3);
+    set_word(hall, pass, cell, 3 * from + 1, 0);
+    set_row(hall, pass, cell, gap, key, value);
+}
+
+// The first row up from a gap that may stand in it, as far as the next row that isn't used, or once round.
+fn row_for(hall: &Hall<MapCargo>, pass: &mut Pass<MapCargo>, cell: u64, gap: u64) -> Option<u64>
+    requires pass { IsPassOf hall.now pass.old }
+    requires suits { Suits hall.now }
+    requires cell { cell < (cargo_of hall.now).cells }
+    requires held { mode_of (standing (view pass.old) cell) ≢ None }
+    requires closing { (m : PlainMap) × Closing (cargo_of hall.now).rows (words_of (view pass.old).part cell) m gap }
+    ensures pass { IsPassOf hall.now pass.new × Alike (view pass.old) (view pass.new) }
+    ensures part { (view pass.new).part ≡ (view pass.old).part }
+    ensures row { MatchOption result (Passed (cargo_of hall.now).rows (words_of (view pass.old).part cell) gap) (λ from. IsNext (cargo_of hall.now).rows (words_of (view pass.old).part cell) gap from) }
+{
+    let rows = hall.cargo().rows;
+    let mut row = hall.cargo().row_above(gap);
+    let mut distance = 1;
+    while distance < rows {
+        if word(hall, pass, cell, 3 * row + 1) == 0 {
+            return None;
+        }
+        let home = hall.cargo().home(word(hall, pass, cell, 3 * row + 2));
+        if hall.cargo().way(home, gap) < hall.cargo().way(home, row) {
+            return Some(row);
+        }
+        row = hall.cargo().row_above(row);
+        distance += 1;
+    }
+    None
+}
+
+// Clears a row, and moves into the gap what may stand in it, until nothing may.
+fn close_gap(hall: &Hall<MapCargo>, pass: &mut Pass<MapCargo>, cell: u64, row: u64)
+    requires pass { IsPassOf hall.now pass.old }
+    requires suits { Suits hall.now }
+    requires cell { cell < (cargo_of hall.now).cells }
+    requires held { mode_of (standing (view pass.old) cell) ≡ exclusive_mode }
+    requires used { IsUsed (cargo_of hall.now).rows (words_of (view pass.old).part cell) row }
+    requires whole { (m : PlainMap) × Table (cargo_of hall.now).rows (words_of (view pass.old).part cell) m }
+    ensures pass { IsPassOf hall.now pass.new × Alike (view pass.old) (view pass.new) }
+    ensures part { Reworded cell (view pass.old).part (view pass.new).part }
+    ensures closed { (m : PlainMap) → Table (cargo_of hall.now).rows (words_of (view pass.old).part cell) m → Table (cargo_of hall.now).rows (words_of (view pass.new).part cell) (without m (key_at (words_of (view pass.old).part cell) row)) }
+    ensures moves { (clear : List ℕ) × WithRow (words_of (view pass.old).part cell) clear row 0 (key_at (words_of (view pass.old).part cell) row) (value_in (words_of (view pass.old).part cell) row) × (moves : List ℕ) × Closes (cargo_of hall.now).rows clear row moves (words_of (view pass.new).part cell) }
+{
+    set_word(hall, pass, cell, 3 * row + 1, 0);
+    let mut gap = row;
+    while let Some(from) = row_for(hall, pass, cell, gap) {
+        move_row(hall, pass, cell, from, gap);
+        gap = from;
+    }
+}
+
+/// Removes a key from a cell that the pass holds exclusively, and answers the value that it had. `None` changes nothing.
+///
+/// It closes the gap: going up from it, as far as the next row that isn't used or once round, each row that may stand in
+/// the gap moves there, and its own place becomes the gap, from which it goes on. A row may stand in the gap if each row
+/// from its key's home up to the gap is used then.
 pub fn del(hall: &Hall<MapCargo>, pass: &mut Pass<MapCargo>, cell: u64, key: u64) -> Option<u64>
     requires pass { IsPassOf hall.now pass.old }
     requires suits { Suits hall.now }
@@ -236,19 +354,17 @@ pub fn del(hall: &Hall<MapCargo>, pass: &mut Pass<MapCargo>, cell: u64, key: u64
     ensures pass { IsPassOf hall.now pass.new × Alike (view pass.old) (view pass.new) }
     ensures part { Reworded cell (view pass.old).part (view pass.new).part }
     ensures del { (m : PlainMap) → Means (words_of (view pass.old).part cell) m → MatchOption result ((m.value_at key ≡ None) × ((view pass.new).part ≡ (view pass.old).part)) (λ before. (m.value_at key ≡ Some before) × Means (words_of (view pass.new).part cell) (without m key)) }
+    ensures moves { IfSome result (λ _. Removed (cargo_of hall.now).rows (words_of (view pass.old).part cell) (words_of (view pass.new).part cell) key) }
 {
     match find(hall, pass, cell, key) {
-        (Some(row), count) => {
-            let last = count - 1;
+        Search::Here(row) => {
             let before = word(hall, pass, cell, 3 * row + 3);
-            let last_key = word(hall, pass, cell, 3 * last + 2);
-            let last_value = word(hall, pass, cell, 3 * last + 3);
-            set_word(hall, pass, cell, 3 * row + 2, last_key);
-            set_word(hall, pass, cell, 3 * row + 3, last_value);
-            set_word(hall, pass, cell, 3 * last + 1, 0);
-            set_word(hall, pass, cell, 0, last);
+            let count = word(hall, pass, cell, 0);
+            close_gap(hall, pass, cell, row);
+            set_word(hall, pass, cell, 0, count - 1);
             Some(before)
         }
-        (None, _) => None,
+        Search::Free(_) => None,
+        Search::Nowhere => None,
     }
 }

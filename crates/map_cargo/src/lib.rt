@@ -18,6 +18,7 @@ pub mod ending;
 pub mod entry;
 pub mod history;
 pub mod refusing;
+pub mod rows;
 pub mod size;
 #[cfg(test)]
 mod tests;

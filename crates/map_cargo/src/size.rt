@@ -7,9 +7,9 @@ ghost use Rattle.std.specs.Prelude.{◌<◌, ◌^◌, ◌+◌, ◌*◌};
 #[derive(Drop)]
 pub struct MapCargo {
     pub cells: u64,
-    /// How many keys a cell has room for, below 2^30.
+    /// How many keys a cell has room for: at least one, and below 2^30.
     pub rows: u64,
     /// How many writes can be drawn.
     pub writes: u64,
-    ghost small: { (cells * (1 + 3 * rows) + 1 + 8 * writes < 2 ^ 32) × (rows < 2 ^ 30) },
+    ghost small: { (cells * (1 + 3 * rows) + 1 + 8 * writes < 2 ^ 32) × (rows < 2 ^ 30) × (0 < rows) },
 }

@@ -19,6 +19,7 @@ use crate::size::MapCargo;
 use hall::{ExclusiveGuard, Hall, Pass, Policy, SharedGuard, TryFault};
 use query_rules::{Query, Reply, Said};
 use shared_mutex::{try_lock, try_lock_shared, unlock, unlock_shared};
+use std::alloc::Global;
 use std::process::Abort;
 use std::sync::Wait;
 use std::thread::{self, Threads};
@@ -257,10 +258,222 @@ fn one_write_and_one_read(rt: HostRuntime) {
     for index in 0..8u64 {
         assert_eq!(rt; closed.word(26 + index), row[index as usize]);
     }
-    let cell = [1, 1, 7, 5, 0, 0, 0];
-    for index in 0..7u64 {
+    // The search for key 7 begins at row 2.
+    let cell = [1, 0, 0, 0, 0, 0, 0, 1, 7, 5, 0, 0, 0];
+    for index in 0..13u64 {
         assert_eq!(rt; closed.word(index), cell[index as usize]);
     }
+}
+
+// The searches for 0, 6, 1, 2, 3 begin at the rows 0, 0, 1, 2, 4 of eight.
+#[test]
+fn homes_in_eight_rows(rt: HostRuntime) {
+    let cargo = MapCargo {
+        cells: 1,
+        rows: 8,
+        writes: 0,
+    };
+    assert_eq!(rt; cargo.home(0), 0);
+    assert_eq!(rt; cargo.home(6), 0);
+    assert_eq!(rt; cargo.home(1), 1);
+    assert_eq!(rt; cargo.home(2), 2);
+    assert_eq!(rt; cargo.home(3), 4);
+    assert_eq!(rt; cargo.home(7), 2);
+    assert_eq!(rt; cargo.row_above(7), 0);
+    assert_eq!(rt; cargo.way(6, 1), 3);
+}
+
+// Each of three keys takes the first row from its home on that isn't used.
+#[test]
+fn three_keys_in_three_rows(rt: HostRuntime) {
+    let cargo = MapCargo {
+        cells: 1,
+        rows: 8,
+        writes: 3,
+    };
+    let made = Hall::make(rt.alloc(), 1, 1, Policy::WritePriority, 1, 3, cargo);
+    let Ok((hall, first)) = made else { rt.abort() };
+    let mut pass = first;
+    assert_eq!(rt; ask_put(&rt, &hall, &mut pass, 0, 0, 10), Said::New);
+    assert_eq!(rt; ask_put(&rt, &hall, &mut pass, 0, 6, 16), Said::New);
+    assert_eq!(rt; ask_put(&rt, &hall, &mut pass, 0, 1, 11), Said::New);
+    assert_eq!(rt; ask_get(&rt, &hall, &mut pass, 0, 6), Said::Found(16));
+    let closed = close(hall, pass);
+    let cell = [3, 1, 0, 10, 1, 6, 16, 1, 1, 11, 0, 0, 0];
+    for index in 0..13u64 {
+        assert_eq!(rt; closed.word(index), cell[index as usize]);
+    }
+}
+
+// The deletion of the first moves both others down by one row. How many words a search loads is in `get`'s clause alone.
+#[test]
+fn a_gap_is_closed(rt: HostRuntime) {
+    let cargo = MapCargo {
+        cells: 1,
+        rows: 8,
+        writes: 4,
+    };
+    let made = Hall::make(rt.alloc(), 1, 1, Policy::WritePriority, 1, 4, cargo);
+    let Ok((hall, first)) = made else { rt.abort() };
+    let mut pass = first;
+    assert_eq!(rt; ask_put(&rt, &hall, &mut pass, 0, 0, 10), Said::New);
+    assert_eq!(rt; ask_put(&rt, &hall, &mut pass, 0, 6, 16), Said::New);
+    assert_eq!(rt; ask_put(&rt, &hall, &mut pass, 0, 1, 11), Said::New);
+    assert_eq!(rt; ask_del(&rt, &hall, &mut pass, 0, 0), Said::Old(10));
+    assert_eq!(rt; ask_get(&rt, &hall, &mut pass, 0, 6), Said::Found(16));
+    assert_eq!(rt; ask_get(&rt, &hall, &mut pass, 0, 1), Said::Found(11));
+    assert_eq!(rt; ask_get(&rt, &hall, &mut pass, 0, 3), Said::Absent);
+    let closed = close(hall, pass);
+    let rows = [2, 1, 6, 16, 1, 1, 11, 0];
+    for index in 0..8u64 {
+        assert_eq!(rt; closed.word(index), rows[index as usize]);
+    }
+    for row in 3..8u64 {
+        assert_eq!(rt; closed.word(3 * row + 1), 0);
+    }
+}
+
+// The key of a slot: the last one is the largest.
+fn key_of(slot: u64) -> u64 {
+    if slot == 9 { u64::MAX } else { slot }
+}
+
+// Each of ten keys has what the plain map says, where 0 says that it is absent.
+fn says_the_same<A: Abort>(
+    rt: &A,
+    hall: &Hall<MapCargo>,
+    pass: &mut Pass<MapCargo>,
+    plain: &[u64; 10],
+)
+    requires pass { IsPassOf hall.now pass.old × Suits hall.now }
+    requires cell { (0 < (cargo_of hall.now).cells) × (0 < (shape_of hall.now).locks) }
+    requires idle { IsIdle (view pass.old) }
+    ensures pass { IsPassOf hall.now pass.new }
+    ensures idle { IsIdle (view pass.new) }
+    ensures quota { (view pass.new).quota ≡ (view pass.old).quota }
+{
+    for slot in 0..10u64 {
+        let value = plain[slot as usize];
+        let want = if value == 0 {
+            Said::Absent
+        } else {
+            Said::Found(value)
+        };
+        assert_eq!(rt; ask_get(rt, hall, pass, 0, key_of(slot)), want);
+    }
+}
+
+// One put or removal, in the cell and in the plain map, by a number that says which.
+fn ask_both<A: Abort>(
+    rt: &A,
+    hall: &Hall<MapCargo>,
+    pass: &mut Pass<MapCargo>,
+    plain: &mut [u64; 10],
+    value: u64,
+    number: u64,
+)
+    requires pass { IsPassOf hall.now pass.old × Suits hall.now }
+    requires cell { (0 < (cargo_of hall.now).cells) × (0 < (shape_of hall.now).locks) }
+    requires idle { IsIdle (view pass.old) }
+    requires quota { 0 < (view pass.old).quota }
+    ensures pass { IsPassOf hall.now pass.new }
+    ensures idle { IsIdle (view pass.new) }
+    ensures quota { (view pass.old).quota ≤ (view pass.new).quota + 1 }
+{
+    let slot = number % 10;
+    let index = slot as usize;
+    let before = plain[index];
+    if number / 10 % 8 < 3 {
+        let want = if before == 0 {
+            Said::Absent
+        } else {
+            Said::Old(before)
+        };
+        assert_eq!(rt; ask_del(rt, hall, pass, 0, key_of(slot)), want);
+        plain[index] = 0;
+        return;
+    }
+    let count = plain.iter().filter(|value| **value > 0).count() as u64;
+    if before == 0 && count == hall.cargo().rows {
+        assert_eq!(rt; ask_put(rt, hall, pass, 0, key_of(slot), value), Said::Full);
+        return;
+    }
+    let want = if before == 0 {
+        Said::New
+    } else {
+        Said::Old(before)
+    };
+    assert_eq!(rt; ask_put(rt, hall, pass, 0, key_of(slot), value), want);
+    plain[index] = value;
+}
+
+// Puts and removals one after the other; after each the cell has what the plain map has.
+fn ask_many<A: Abort>(rt: &A, hall: &Hall<MapCargo>, pass: &mut Pass<MapCargo>, times: u64)
+    requires pass { IsPassOf hall.now pass.old × Suits hall.now }
+    requires cell { (0 < (cargo_of hall.now).cells) × (0 < (shape_of hall.now).locks) }
+    requires idle { IsIdle (view pass.old) }
+    requires quota { times ≤ (view pass.old).quota }
+    ensures pass { IsPassOf hall.now pass.new }
+    ensures idle { IsIdle (view pass.new) }
+{
+    let mut plain = [0; 10];
+    let mut state = 1u64;
+    for value in 0..times {
+        state = state
+            .wrapping_mul(6364136223846793005)
+            .wrapping_add(1442695040888963407);
+        ask_both(
+            rt,
+            hall,
+            pass,
+            &mut plain,
+            value.wrapping_add(1),
+            state >> 33,
+        );
+        says_the_same(rt, hall, pass, &plain);
+    }
+}
+
+// A table of so many rows beside a plain map. At the end its length is the number of its used rows.
+fn beside_a_plain_map<A: Abort>(rt: &A, alloc: Global, rows: u64)
+    requires { (0 < rows) × (rows ≤ 10) }
+{
+    let cargo = MapCargo {
+        cells: 1,
+        rows,
+        writes: 2000,
+    };
+    let made = Hall::make(alloc, 1, 1, Policy::WritePriority, 1, 2000, cargo);
+    let Ok((hall, first)) = made else { rt.abort() };
+    let mut pass = first;
+    ask_many(rt, &hall, &mut pass, 2000);
+    let closed = close(hall, pass);
+    let mut used = 0u64;
+    for row in 0..rows {
+        used = used.wrapping_add(closed.word(3 * row + 1));
+    }
+    assert_eq!(rt; closed.word(0), used);
+}
+
+// These tables are full again and again, but the last one, which has a row for each key.
+#[test]
+fn one_row_beside_a_plain_map(rt: HostRuntime) {
+    beside_a_plain_map(&rt, rt.alloc(), 1);
+}
+
+#[test]
+fn three_rows_beside_a_plain_map(rt: HostRuntime) {
+    beside_a_plain_map(&rt, rt.alloc(), 3);
+}
+
+#[test]
+fn seven_rows_beside_a_plain_map(rt: HostRuntime) {
+    beside_a_plain_map(&rt, rt.alloc(), 7);
+}
+
+#[test]
+fn ten_rows_beside_a_plain_map(rt: HostRuntime) {
+    beside_a_plain_map(&rt, rt.alloc(), 10);
 }
 
 // Two rows: the third key finds no room, until a deletion makes some.

@@ -1,9 +1,10 @@
 //! What no clause says: that each call succeeds with ample memory, and worked examples.
 use crate::{
-    Clock, Clocks, Failed, Gate, ListClock, ListClocks, MemSink, MemSource, NoMemory, OpenGate,
-    ReadFault, Sink, Source, read_to_end, write_whole,
+    Clock, Clocks, Failed, Gate, HoldGate, ListClock, ListClocks, MemSink, MemSource, NoMemory,
+    OpenGate, ReadFault, Sink, Source, TurnGate, read_to_end, write_whole,
 };
 use std::alloc::{AllocError, Global};
+use std::sync::atomic::{AtomicU64, Ordering};
 use std::thread::{Threads, join};
 
 #[test]
@@ -128,4 +129,83 @@ fn each_caller_has_a_clock_of_its_own(rt: HostRuntime) {
     let answers = [4, 9];
     let clocks = ListClocks::new(&answers);
     assert_eq!(rt; two_callers(&rt, &clocks, &OpenGate), [[4, 9], [4, 9]]);
+}
+
+const LIMIT: u64 = 100_000_000;
+
+// Asks so many queries through the gate, and tells when each was asked.
+fn ask_all<G: Gate, const N: usize>(gate: &G, asked: &AtomicU64, caller: u64) -> [u64; N] {
+    let mut times = [0; N];
+    for (index, time) in times.iter_mut().enumerate() {
+        gate.before(caller, index as u64);
+        *time = asked.fetch_add(1, Ordering::SeqCst);
+        gate.after(caller, index as u64);
+    }
+    times
+}
+
+#[test]
+fn two_listed_calls_come_in_turn(rt: HostRuntime) -> Result<(), AllocError> {
+    let gate = TurnGate::new(vec![in rt.alloc(); (0, 0), (1, 0)]?, LIMIT);
+    let asked = AtomicU64::new(0);
+    let (first, second) = join(
+        &rt,
+        || ask_all::<_, 1>(&gate, &asked, 0),
+        || ask_all::<_, 1>(&gate, &asked, 1),
+    );
+    assert_eq!(rt; (first, second), ([0], [1]));
+    assert!(rt; !gate.limit_met());
+    Ok(())
+}
+
+// A caller that is run after the other one, or on the other one's thread, would meet the limit.
+#[test]
+fn a_call_comes_between_two_of_another_caller(rt: HostRuntime) -> Result<(), AllocError> {
+    let gate = TurnGate::new(vec![in rt.alloc(); (0, 0), (1, 0), (0, 1)]?, LIMIT);
+    let asked = AtomicU64::new(0);
+    let (first, second) = join(
+        &rt,
+        || ask_all::<_, 2>(&gate, &asked, 0),
+        || ask_all::<_, 1>(&gate, &asked, 1),
+    );
+    assert_eq!(rt; (first, second), ([0, 2], [1]));
+    assert!(rt; !gate.limit_met());
+    Ok(())
+}
+
+#[test]
+fn the_first_call_is_held_behind_another(rt: HostRuntime) {
+    let gate = HoldGate::new(1, LIMIT);
+    let asked = AtomicU64::new(0);
+    assert!(rt; !gate.held());
+    let (first, second) = join(
+        &rt,
+        || ask_all::<_, 1>(&gate, &asked, 0),
+        || ask_all::<_, 1>(&gate, &asked, 1),
+    );
+    assert!(rt; (first, second) == ([0], [1]) || (first, second) == ([1], [0]));
+    assert!(rt; gate.held() && !gate.limit_met());
+}
+
+// On one thread: who isn't listed, or comes in turn, isn't held; who comes too early is let go.
+#[test]
+fn a_limit_lets_go(rt: HostRuntime) -> Result<(), AllocError> {
+    let gate = TurnGate::new(vec![in rt.alloc(); (0, 0), (1, 0)]?, 3);
+    gate.before(7, 7);
+    gate.after(7, 7);
+    gate.before(0, 0);
+    gate.after(0, 0);
+    gate.before(1, 0);
+    assert!(rt; !gate.limit_met());
+    let early = TurnGate::new(vec![in rt.alloc(); (0, 0), (1, 0)]?, 3);
+    early.before(1, 0);
+    assert!(rt; early.limit_met());
+    let none = HoldGate::new(0, 0);
+    none.before(0, 0);
+    none.after(0, 0);
+    assert!(rt; none.held() && !none.limit_met());
+    let alone = HoldGate::new(1, 3);
+    alone.before(0, 0);
+    assert!(rt; alone.held() && alone.limit_met());
+    Ok(())
 }

@@ -1,8 +1,10 @@
 pub mod Cells
 pub mod Counting
+pub mod Jobs
 pub mod Moving
 pub mod Pairs
 pub mod Placing
 pub mod Refusing
 pub mod Replies
 pub mod Taking
+pub mod Trails

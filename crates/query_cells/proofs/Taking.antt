@@ -13,8 +13,10 @@ use Rattle.hall.specs.declared.view.View.{View}
 use Rattle.hall.specs.Plays.{Retracts}
 use Rattle.hall.specs.Refusals.{BusyForReading, BusyForWriting, ReadTwoWords}
 use Rattle.hall.specs.Views.{after_look, after_step, standing}
+use Rattle.apply_deferred.specs.SweepLaws.{sweep_goes}
+use Rattle.apply_deferred.specs.Sweeping.{Sweeps}
 use Rattle.shared_mutex.specs.Acquiring.{AnnouncesWriter, ElsewhereSame, FoundReaders, RefusesAnnouncing, RefusesExclusive, RefusesShared}
-use Rattle.shared_mutex.specs.Refused.{AddsReads, GoesOn, ReadAsReader, ReadAsWriter, goes_on_none, goes_on_once, goes_on_then, joined_as_reader, joined_as_writer, reads_after}
+use Rattle.shared_mutex.specs.Refused.{AddsReads, GoesOn, ReadAsReader, ReadAsWriter, goes_on_none, goes_on_once, goes_on_then, joined_as_reader, joined_as_writer, reads_after, swept_goes_on}
 use Rattle.sync_cell.specs.Refused.{looked_goes_on}
 use Rattle.sync_cell.specs.Tries.{AnnouncesAtLast, GivesUp, OnlyLooked, WritersRefused}
 use Rattle.sync_cell.specs.TryLaws.{reader_looked, writer_looked}
@@ -83,17 +85,21 @@ module _ (g : Ghosts MapCargo Part) where
   pub announced : (v u : View Part) (lock : ℕ) → AnnouncesWriter g v lock u → Unchanged v u
   announced v u lock a = unchanged_then v (after_look v kinds.Load lock a.0) u (unchanged_step v (after_look v kinds.Load lock a.0) kinds.Load lock a.0 false (standing v lock) refl) (unchanged_step (after_look v kinds.Load lock a.0) u kinds.Announce lock a.0 true _ a.2.0)
 
+  -- a sweep
+  pub swept : (lock slots taken : ℕ) (u z : View Part) → Sweeps g lock slots taken u z → Unchanged u z
+  swept lock slots taken u z r = let t = sweep_goes g lock slots taken u z r in record { part = t.part; quota = t.quota; span = t.span; taken = t.taken; goes_on = swept_goes_on g lock slots taken u z r }
+
   found_readers : (v : View Part) (lock : ℕ) (w : View Part) (word : ℕ) → FoundReaders g v lock w word → Unchanged v w
   found_readers v lock w word r =
-      let u : View Part = r.0 in let look : View Part = after_look u kinds.Hold lock word in
-      unchanged_then v u w (announced v u lock r.1) (unchanged_then u look w (unchanged_step u look kinds.Hold lock word false (standing u lock) refl) (unchanged_step look w kinds.Retract lock r.4.0 true Away r.4.1))
+      let u : View Part = r.0 in let z : View Part = r.2 in let look : View Part = after_look z kinds.Hold lock word in
+      unchanged_then v u w (announced v u lock r.1) (unchanged_then u z w (swept lock v.shape.slots r.3 u z r.4) (unchanged_then z look w (unchanged_step z look kinds.Hold lock word false (standing z lock) refl) (unchanged_step look w kinds.Retract lock r.7.0 true Away r.7.1)))
 
   pub writer_unchanged : (v : View Part) (lock : ℕ) (w : View Part) (f : TryFault) → RefusesExclusive g v lock w f → Unchanged v w
   writer_unchanged v lock w (Busy word) r = ⊎_elim (λ t. unchanged_look v w lock (writer_looked g v lock w (Busy word) t)) (found_readers v lock w word) r
   writer_unchanged v lock w (Raced expected found) r = unchanged_look v w lock (writer_looked g v lock w (Raced expected found) r)
 
   pub announced_at_last : (v : View Part) (lock : ℕ) (faults : List TryFault) (a : View Part) → AnnouncesAtLast g v lock faults a → Unchanged v a
-  announced_at_last v lock faults a e = unchanged_then v e.0 a (unchanged_look v e.0 lock e.2) (announced e.0 a lock e.3)
+  announced_at_last v lock faults a e = unchanged_then v e.3 a (unchanged_then v e.0 e.3 (unchanged_look v e.0 lock e.2) (announced e.0 e.3 lock e.4)) (swept lock v.shape.slots e.5.0 e.3 a e.5.1)
 
   gave_up : (v : View Part) (lock : ℕ) (faults misses : List TryFault) (w : View Part) → GivesUp g v lock faults misses w → Unchanged v w
   gave_up v lock faults misses w e =

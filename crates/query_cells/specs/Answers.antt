@@ -1,11 +1,13 @@
 -- Steps of one query: what they keep, and what they tell.
-use Rattle.std.specs.Prelude.{◌≡◌, ◌≢◌, ℕ, ◌+◌, ◌<◌, ◌≤◌, List, [], ◌∷◌, ◌++◌, All, MatchBool, Some, true, false}
+use Rattle.std.specs.Prelude.{◌≡◌, ◌≢◌, ◌⊎◌, ℕ, ◌+◌, ◌<◌, ◌≤◌, List, [], ◌∷◌, ◌++◌, All, MatchBool, Some, true, false}
 use Rattle.lock_model.specs.Locks.{Has}
+use Rattle.hall.specs.declared.view.Footprint.{Footprint}
 use Rattle.hall.specs.declared.view.View.{View}
 use Rattle.hall.specs.declared.view.StepEntry.{StepEntry}
 use Rattle.hall.specs.declared.view.Standing.{Standing}
 use Rattle.hall.specs.declared.view.Standing.TheVariants.{Away}
 use Rattle.hall.specs.Cargo.{shared_mode, exclusive_mode}
+use Rattle.hall.specs.Treading.{IsAt, IsWeakAt}
 use Rattle.hall.specs.Views.{standing, mode_of, place_of}
 use Rattle.query_rules.specs.declared.query.Query.{Query}
 use Rattle.query_rules.specs.declared.query.Query.TheVariants.{Put}
@@ -125,3 +127,10 @@ pub record Took (lock : ℕ) (y : Standing) (v w : View Part) : Type 0 where
   pub stands : standing w lock ≡ y
   pub elsewhere : (k : ℕ) → k ≢ lock → standing w k ≡ standing v k
   pub gained : Gained no_entries lock v w
+
+-- a footprint at one of two locks, and no strong one
+abbrev pub IsAtEither : ℕ → ℕ → Footprint → Type 0
+IsAtEither a b m = IsAt a m ⊎ IsAt b m
+
+abbrev pub IsWeakAtEither : ℕ → ℕ → Footprint → Type 0
+IsWeakAtEither a b m = IsWeakAt a m ⊎ IsWeakAt b m

@@ -1,17 +1,27 @@
 -- What one query leaves of the pass that asks it.
-use Rattle.std.specs.Prelude.{◌≡◌, ℕ, ◌+◌, ◌-◌, ◌≤◌, Bool, true, false, List, [], ◌∷◌, ◌++◌, length, MatchBool, Some}
+use Rattle.std.specs.Prelude.{◌≡◌, ℕ, ◌+◌, ◌≤◌, Bool, true, false, List, [], ◌∷◌, ◌++◌, MatchBool, Some}
+use Rattle.lock_model.specs.Locks.{Has}
+use Rattle.hall.specs.declared.view.Footprint.{Footprint}
 use Rattle.hall.specs.declared.view.StepEntry.{StepEntry}
 use Rattle.hall.specs.declared.view.View.{View}
 use Rattle.query_rules.specs.declared.query.Query.{Query}
 use Rattle.query_rules.specs.declared.query.Query.TheVariants.{GetBy, PutBy}
 use Rattle.query_rules.specs.declared.query.LedgerAct.{LedgerAct}
+use Rattle.query_rules.specs.declared.query.LedgerTold.{LedgerTold}
+use Rattle.query_rules.specs.declared.query.LedgerTrouble.{LedgerTrouble}
 use Rattle.query_rules.specs.declared.query.Said.{Said}
 use Rattle.query_rules.specs.declared.query.Reply.{Reply}
 use Rattle.query_rules.specs.declared.query.Reply.TheVariants.{Placed, Busy, Late, Job}
 use Rattle.query_rules.specs.Maps.{is_write}
-use Rattle.query_rules.specs.Ledger.{act_of, result_of}
+use Rattle.query_rules.specs.Ledger.{LedgerResult, act_of, result_of}
 use Rattle.query_rules.specs.History.{place_of}
-use Rattle.query_log.specs.Ledgers.{LedgerView, accounts_in, entry_of}
+use Rattle.query_rules.specs.Licence.{taken_cells, is_strong}
+use Rattle.query_log.specs.declared.job.LedgerJob.{LedgerJob}
+use Rattle.query_log.specs.Ledgers.{LedgerView, accounts_in}
+use Rattle.combine_job.specs.declared.parcel.JobAnswer.{JobAnswer}
+use Rattle.combine_job.specs.declared.parcel.Parcel.{Parcel}
+use Rattle.combine_job.specs.Parcels.{answer_to, places}
+use Rattle.waiter_chain.specs.declared.view.View.{View as ChainView}
 use Rattle.map_cargo.specs.declared.entry.Entry.{Entry}
 use Rattle.map_cargo.specs.declared.entry.Told.TheVariants.{Wrote, Read, Refused}
 use Rattle.map_cargo.specs.declared.entry.Part.{Part}
@@ -52,17 +62,32 @@ AddsReply number index q Busy p r = (r.told ≡ Refused number index q Busy ∷ 
 AddsReply number index q (Late now) p r = (r.told ≡ Refused number index q (Late now) ∷ p.told) × (r.seen ≡ p.seen)
 AddsReply number index q (Job at result) p r = (r.told ≡ p.told) × (r.seen ≡ p.seen)
 
--- what a reply leaves of the ledger: a job's is the next entry of its history, with its act's result on the accounts so far; the others leave it
-abbrev pub AddsJob : ℕ → ℕ → Query → Reply → LedgerView → LedgerView → Type 0
-AddsJob number index q (Placed place said) old new = new ≡ old
-AddsJob number index q Busy old new = new ≡ old
-AddsJob number index q (Late now) old new = new ≡ old
-AddsJob number index q (Job at result) old new =
-    (act : LedgerAct)
-    × (act_of q ≡ Some act)
-    × (at ≡ length old.entries)
-    × (result ≡ result_of old.rows (accounts_in old) act)
-    × (new ≡ record { rows = old.rows; room = old.room - 1; entries = old.entries ++ entry_of (record { caller = number; index = index; act = act }) result ∷ [] })
+-- what the lock of the ledger carries: the ledger, its jobs and their answers
+abbrev pub LedgerParcel : Type 0
+LedgerParcel = Parcel LedgerView LedgerJob LedgerTold LedgerTrouble
+
+-- a job that ran, with its answer
+abbrev pub LedgerRun : Type 0
+LedgerRun = LedgerParcel × LedgerParcel
+
+-- the job of this act, by this caller under this index, with what it was told at this position
+abbrev pub answer_for : ℕ → ℕ → LedgerAct → ℕ → LedgerResult → LedgerRun
+answer_for number index act at result = answer_to (record { caller = number; index = index; act = act }) (record { at = at; result = result })
+
+-- One job more of a pass: it is the last of the pass's own list, with its answer, at a position above all that stood there, it has the result of its act on a ledger, and it is paid for
+pub record AnswersJob (job : LedgerJob) (answer : JobAnswer LedgerTold LedgerTrouble) (v w : ChainView LedgerParcel) : Type 0 where
+  pub own : w.own ≡ v.own ++ answer_to job answer ∷ []
+  pub rises : (p : ℕ) → answer.at ≤ p → places p v.own ≡ 0
+  pub ran : (ledger : LedgerView) × (answer.result ≡ result_of ledger.rows (accounts_in ledger) job.act)
+  pub quota : w.quota + 1 ≡ v.quota
+
+-- what a reply leaves of the pass of the ledger's lock: a job's answer is the last of its own list, with the job under this number and this index; the others leave the pass
+abbrev pub AddsJob : ℕ → ℕ → Query → Reply → ChainView LedgerParcel → ChainView LedgerParcel → Type 0
+AddsJob number index q (Placed place said) v w = w ≡ v
+AddsJob number index q Busy v w = w ≡ v
+AddsJob number index q (Late now) v w = w ≡ v
+AddsJob number index q (Job at result) v w =
+    (act : LedgerAct) × (act_of q ≡ Some act) × AnswersJob (record { caller = number; index = index; act = act }) (record { at = at; result = result }) v w
 
 -- until when a query waits
 abbrev pub deadline_of : Query → ℕ
@@ -87,6 +112,10 @@ IsForced q Busy v w = WasRefused q Busy v w
 IsForced q (Late now) v w = WasRefused q (Late now) v w
 IsForced q (Placed place said) v w = Unit {0}
 IsForced q (Job at result) v w = Unit {0}
+
+-- a footprint that a query may leave: at a cell that it takes, and a strong one only where the query is strong
+abbrev pub MayTread : Query → Footprint → Type 0
+MayTread q m = Has (taken_cells q) m.lock × (m.strong ≡ true → is_strong q ≡ true)
 
 -- the numbers of a pass stay
 pub record KeepsNumbers (v w : View Part) : Type 0 where

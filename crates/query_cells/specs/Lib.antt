@@ -1,3 +1,4 @@
 pub mod Asked
 pub mod Placing
 pub mod Answers
+pub mod LicenceLaws

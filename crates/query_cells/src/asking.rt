@@ -1,25 +1,30 @@
 //! Asking one query, of whatever kind.
 ghost use Rattle.std.specs.Prelude.{◌≡◌, ◌+◌, ◌≤◌, true, MatchBool};
 ghost use Rattle.hall.specs.Passes.{view, IsPassOf, shape_of, cargo_of};
+ghost use Rattle.hall.specs.Treading.{Treads};
 ghost use Rattle.query_rules.specs.Grammar.{TakesBelow};
 ghost use Rattle.query_rules.specs.History.{IsKindFor, asks_ledger};
 ghost use Rattle.query_rules.specs.Maps.{may_write};
 ghost use Rattle.map_cargo.specs.Steps.{Suits, IsIdle};
-ghost use Rattle.query_cells.specs.Asked.{AddsJob, AddsReply, IsForced, IsLateBy, KeepsNumbers, is_granted, tells_write};
+ghost use Rattle.dist_mutex.specs.Passes.{IsAtRest, IsDistPassOf, SameNumbers, dist_view};
+ghost use Rattle.query_cells.specs.Asked.{AddsJob, AddsReply, IsForced, IsLateBy, KeepsNumbers, MayTread, is_granted, tells_write};
 ghost use Rattle.query_cells.specs.Placing.{IsPlacedUnder};
 
 use crate::ledger::ask_ledger;
 use crate::refusable::{ask_get_by, ask_put_by, ask_try_get, ask_try_put};
 use crate::single::{ask_add, ask_cas, ask_del, ask_get, ask_len, ask_put, ask_put_len};
 use crate::two::{ask_both, ask_move};
+use dist_mutex::mutex::DistMutex;
+use dist_mutex::pass::DistPass;
 use hall::{Hall, Pass};
 use map_cargo::MapCargo;
 use ql_base::Clock;
-use query_log::Ledger;
+use query_log::{Ledger, LedgerJob};
 use query_rules::{Query, Reply};
 use std::sync::Wait;
 
-/// Asks a query by a pass that holds no lock, as query number `index` of its caller, and answers its one reply.
+/// Asks a query by two passes that hold no lock, the one of the hall and the one of the ledger's lock, as query number
+/// `index` of their caller, and answers its one reply.
 ///
 /// The maps' queries take their cells by waiting, in the mode that they need: `get`, `len` and `both` for reading; `put`,
 /// `del`, `add`, `cas`, `putlen` and `move` for writing. Two cells are taken one after the other, the lower number first,
@@ -29,7 +34,9 @@ use std::sync::Wait;
 /// with one seat no query is `Busy` or `Late`.
 ///
 /// A placed reply is told while its cells are held, and the pass has one write less to draw where it is one. A refused one
-/// is told without a place. `give`, `take` and `audit` are jobs of the ledger, and leave the pass as it was.
+/// is told without a place. `give`, `take` and `audit` are jobs of the ledger and leave the hall's pass as it was: the
+/// answer is the last of the other pass's own list, which has one job less to run. `give` and `take` may be run by whoever
+/// owns the ledger's lock, and `audit` by this pass alone.
 ///
 /// A query of a cell looks at up to as many rows as the cell has keys. Its contract holds if it returns. It takes no
 /// memory.
@@ -37,7 +44,8 @@ pub fn ask<R: Wait, T: Clock>(
     rt: &R,
     hall: &Hall<MapCargo>,
     pass: &mut Pass<MapCargo>,
-    ledger: &mut Ledger,
+    dist: &DistMutex<Ledger, LedgerJob>,
+    dist_pass: &mut DistPass<Ledger, LedgerJob>,
     clock: &mut T,
     index: u64,
     query: &Query,
@@ -48,7 +56,9 @@ pub fn ask<R: Wait, T: Clock>(
     requires idle { IsIdle (view pass.old) }
     requires cells { TakesBelow (cargo_of hall.now).cells query.now }
     requires quota { may_write query.now ≡ true → 1 ≤ (view pass.old).quota }
-    requires room { asks_ledger query.now ≡ true → 1 ≤ ledger.old.room }
+    requires dist { IsDistPassOf dist.now dist_pass.old × IsAtRest dist_pass.old }
+    requires number { (dist_view dist_pass.old).number ≡ (view pass.old).number }
+    requires jobs { asks_ledger query.now ≡ true → 1 ≤ (dist_view dist_pass.old).quota }
     ensures pass { IsPassOf hall.now pass.new }
     ensures idle { IsIdle (view pass.new) }
     ensures same { KeepsNumbers (view pass.old) (view pass.new) }
@@ -56,9 +66,12 @@ pub fn ask<R: Wait, T: Clock>(
     ensures kind { IsKindFor query.now result }
     ensures told { AddsReply (view pass.old).number index query.now result (view pass.old).part (view pass.new).part }
     ensures placing { IsPlacedUnder (cargo_of hall.now) (view pass.old) (view pass.new) query.now result }
-    ensures ledger { AddsJob (view pass.old).number index query.now result ledger.old ledger.new }
+    ensures dist { IsDistPassOf dist.now dist_pass.new × IsAtRest dist_pass.new }
+    ensures dist_same { SameNumbers (dist_view dist_pass.old) (dist_view dist_pass.new) }
+    ensures job { AddsJob (view pass.old).number index query.now result (dist_view dist_pass.old) (dist_view dist_pass.new) }
     ensures late { IsLateBy query.now (T.last clock.new) result }
     ensures forced { IsForced query.now result (view pass.old) (view pass.new) }
+    ensures trail { Treads (MayTread query.now) (view pass.old) (view pass.new) }
     ensures alone { (shape_of hall.now).seats ≡ 1 → is_granted result ≡ true }
 {
     match *query {
@@ -77,7 +90,7 @@ pub fn ask<R: Wait, T: Clock>(
         Query::Move { from, to, key, n } => ask_move(rt, hall, pass, index, from, to, key, n),
         Query::Both { first, second, key } => ask_both(rt, hall, pass, index, first, second, key),
         Query::Give { .. } | Query::Take { .. } | Query::Audit => {
-            ask_ledger(pass, ledger, index, query)
+            ask_ledger(rt, dist, dist_pass, index, query)
         }
         Query::TryGet { cell, key } => ask_try_get(rt, hall, pass, index, cell, key),
         Query::TryPut { cell, key, value } => ask_try_put(rt, hall, pass, index, cell, key, value),

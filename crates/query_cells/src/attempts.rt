@@ -2,6 +2,7 @@
 ghost use Rattle.std.specs.Prelude.{◌≡◌, ◌≢◌, ◌<◌, ◌≤◌, ◌⊎◌, ℕ, MatchOption, MatchResult, ⊤};
 ghost use Rattle.hall.specs.Passes.{view, IsPassOf, shape_of};
 ghost use Rattle.hall.specs.Refusals.{BusyForReading, BusyForWriting, ReadTwoWords};
+ghost use Rattle.hall.specs.Treading.{IsAt, IsWeakAt, Treads};
 ghost use Rattle.hall.specs.Views.{standing};
 ghost use Rattle.hall.specs.declared.view.Standing.TheVariants.{Away, Inline, Exclusive};
 ghost use Rattle.shared_mutex.specs.Refused.{AddsReads};
@@ -26,6 +27,7 @@ pub(crate) fn try_to_read<R: Wait>(
     requires cell { cell < (shape_of hall.now).locks }
     requires away { standing (view pass.old) cell ≡ Away }
     ensures pass { IsPassOf hall.now pass.new }
+    ensures trail { Treads (IsWeakAt cell) (view pass.old) (view pass.new) }
     ensures taken { MatchOption result (TurnedAway cell (view pass.old) (view pass.new)) (λ ptr. (ptr.guard.lock ≡ cell) × Took cell Inline (view pass.old) (view pass.new)) }
     ensures busy { MatchOption result (AddsReads (λ shape number added. BusyForReading shape number added cell) (view pass.old) (view pass.new)) (λ _. ⊤) }
 {
@@ -51,6 +53,7 @@ pub(crate) fn try_to_write<R: Wait>(
     requires cell { cell < (shape_of hall.now).locks }
     requires away { standing (view pass.old) cell ≡ Away }
     ensures pass { IsPassOf hall.now pass.new }
+    ensures trail { Treads (IsAt cell) (view pass.old) (view pass.new) }
     ensures taken { MatchOption result (TurnedAway cell (view pass.old) (view pass.new)) (λ ptr. (ptr.guard.lock ≡ cell) × Took cell Exclusive (view pass.old) (view pass.new)) }
     ensures busy { MatchOption result (AddsReads (λ shape number added. BusyForWriting shape number added cell) (view pass.old) (view pass.new)) (λ _. ⊤) }
 {
@@ -78,6 +81,7 @@ pub(crate) fn read_until<R: Wait, T: Clock>(
     requires cell { cell < (shape_of hall.now).locks }
     requires away { standing (view pass.old) cell ≡ Away }
     ensures pass { IsPassOf hall.now pass.new }
+    ensures trail { Treads (IsWeakAt cell) (view pass.old) (view pass.new) }
     ensures taken { MatchResult result (λ ptr. (ptr.guard.lock ≡ cell) × Took cell Inline (view pass.old) (view pass.new)) (λ _. TurnedAway cell (view pass.old) (view pass.new)) }
     ensures late { MatchResult result (λ _. ⊤) (λ now. (deadline ≤ now) × (now ≡ T.last clock.new)) }
     ensures reads { MatchResult result (λ _. ⊤) (λ _. AddsReads (λ shape number added. BusyForReading shape number added cell ⊎ ReadTwoWords shape number added cell) (view pass.old) (view pass.new)) }
@@ -102,6 +106,7 @@ pub(crate) fn write_until<R: Wait, T: Clock>(
     requires cell { cell < (shape_of hall.now).locks }
     requires away { standing (view pass.old) cell ≡ Away }
     ensures pass { IsPassOf hall.now pass.new }
+    ensures trail { Treads (IsAt cell) (view pass.old) (view pass.new) }
     ensures taken { MatchResult result (λ ptr. (ptr.guard.lock ≡ cell) × Took cell Exclusive (view pass.old) (view pass.new)) (λ _. TurnedAway cell (view pass.old) (view pass.new)) }
     ensures late { MatchResult result (λ _. ⊤) (λ now. (deadline ≤ now) × (now ≡ T.last clock.new)) }
     ensures reads { MatchResult result (λ _. ⊤) (λ _. AddsReads (λ shape number added. BusyForWriting shape number added cell ⊎ ReadTwoWords shape number added cell) (view pass.old) (view pass.new)) }

@@ -1,6 +1,7 @@
 //! Taking a cell and giving it back, as the maps see it.
 ghost use Rattle.std.specs.Prelude.{◌≡◌, ◌≢◌, ◌<◌, ℕ};
 ghost use Rattle.hall.specs.Passes.{view, IsPassOf, shape_of, cargo_of};
+ghost use Rattle.hall.specs.Treading.{IsAt, IsWeakAt, Treads};
 ghost use Rattle.hall.specs.Views.{standing};
 ghost use Rattle.hall.specs.declared.view.Standing.TheVariants.{Away, Inline, Exclusive};
 ghost use Rattle.shared_mutex.specs.Acquiring.{ElsewhereSame};
@@ -28,6 +29,7 @@ pub(crate) fn hold_for_reading<R: Wait>(
     ensures held { (result.guard.lock ≡ cell) × (standing (view pass.new) cell ≡ Inline) }
     ensures elsewhere { ElsewhereSame (view pass.old) (view pass.new) cell }
     ensures gained { Gained no_entries cell (view pass.old) (view pass.new) }
+    ensures trail { Treads (IsWeakAt cell) (view pass.old) (view pass.new) }
 {
     rlock(rt, hall, pass, cell)
 }
@@ -46,6 +48,7 @@ pub(crate) fn hold_for_writing<R: Wait>(
     ensures held { (result.guard.lock ≡ cell) × (standing (view pass.new) cell ≡ Exclusive) }
     ensures elsewhere { ElsewhereSame (view pass.old) (view pass.new) cell }
     ensures gained { Gained no_entries cell (view pass.old) (view pass.new) }
+    ensures trail { Treads (IsAt cell) (view pass.old) (view pass.new) }
 {
     wlock(rt, hall, pass, cell)
 }
@@ -61,6 +64,7 @@ pub(crate) fn leave_reading(hall: &Hall<MapCargo>, pass: &mut Pass<MapCargo>, pt
     ensures elsewhere { ElsewhereSame (view pass.old) (view pass.new) ptr.guard.lock }
     ensures left { Left (view pass.old) (view pass.new) }
     ensures back { LeadsBack (cargo_of hall.now) (view pass.old) (view pass.new) }
+    ensures trail { Treads (IsWeakAt ptr.guard.lock) (view pass.old) (view pass.new) }
 {
     unlock_read(hall, pass, ptr);
 }
@@ -77,6 +81,7 @@ pub(crate) fn leave_writing(hall: &Hall<MapCargo>, pass: &mut Pass<MapCargo>, pt
     ensures elsewhere { ElsewhereSame (view pass.old) (view pass.new) ptr.guard.lock }
     ensures left { Left (view pass.old) (view pass.new) }
     ensures back { LeadsBack (cargo_of hall.now) (view pass.old) (view pass.new) }
+    ensures trail { Treads (IsAt ptr.guard.lock) (view pass.old) (view pass.new) }
 {
     unlock_write(hall, pass, ptr);
 }

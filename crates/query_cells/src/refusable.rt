@@ -1,6 +1,8 @@
 //! Queries that may be refused: by a try, or at a deadline.
 ghost use Rattle.std.specs.Prelude.{◌≡◌, ◌≢◌, ◌<◌, ◌≤◌, ℕ, true};
 ghost use Rattle.hall.specs.Passes.{view, IsPassOf, shape_of, cargo_of};
+ghost use Rattle.hall.specs.Treading.{IsAt, IsWeakAt, Treads};
+ghost use Rattle.hall.specs.Views.{standing};
 ghost use Rattle.query_rules.specs.declared.query.Query.{Query};
 ghost use Rattle.map_cargo.specs.Licences.{LoadedOnce, MayRefuse};
 ghost use Rattle.map_cargo.specs.Steps.{Suits, IsIdle};
@@ -28,6 +30,7 @@ fn refuse(
     requires idle { IsIdle (view pass.old) }
     requires may { MayRefuse (view pass.old) query.now reply }
     ensures pass { IsPassOf hall.now pass.new × IsIdle (view pass.new) }
+    ensures trail { (view pass.new).trail ≡ (view pass.old).trail }
     ensures tells { Tells (cargo_of hall.now) (view pass.old) (view pass.new) index query.now result }
     ensures reply { result ≡ reply }
     ensures load { LoadedOnce query.now (view pass.old) (view pass.new) }
@@ -50,6 +53,7 @@ pub(crate) fn ask_try_get<R: Wait>(
     requires cell { (cell < (cargo_of hall.now).cells) × (cell < (shape_of hall.now).locks) }
     requires idle { IsIdle (view pass.old) }
     ensures pass { IsPassOf hall.now pass.new × IsIdle (view pass.new) }
+    ensures trail { Treads (IsWeakAt cell) (view pass.old) (view pass.new) }
     ensures tells { Tells (cargo_of hall.now) (view pass.old) (view pass.new) index (Query.TryGet cell key) result }
     ensures forced { IsForced (Query.TryGet cell key) result (view pass.old) (view pass.new) }
     ensures alone { (shape_of hall.now).seats ≡ 1 → is_granted result ≡ true }
@@ -77,6 +81,7 @@ pub(crate) fn ask_try_put<R: Wait>(
     requires idle { IsIdle (view pass.old) }
     requires quota { 1 ≤ (view pass.old).quota }
     ensures pass { IsPassOf hall.now pass.new × IsIdle (view pass.new) }
+    ensures trail { Treads (IsAt cell) (view pass.old) (view pass.new) }
     ensures tells { Tells (cargo_of hall.now) (view pass.old) (view pass.new) index (Query.TryPut cell key value) result }
     ensures forced { IsForced (Query.TryPut cell key value) result (view pass.old) (view pass.new) }
     ensures alone { (shape_of hall.now).seats ≡ 1 → is_granted result ≡ true }
@@ -104,6 +109,7 @@ pub(crate) fn ask_get_by<R: Wait, T: Clock>(
     requires cell { (cell < (cargo_of hall.now).cells) × (cell < (shape_of hall.now).locks) }
     requires idle { IsIdle (view pass.old) }
     ensures pass { IsPassOf hall.now pass.new × IsIdle (view pass.new) }
+    ensures trail { Treads (IsWeakAt cell) (view pass.old) (view pass.new) }
     ensures tells { Tells (cargo_of hall.now) (view pass.old) (view pass.new) index (Query.GetBy cell key deadline) result }
     ensures forced { IsForced (Query.GetBy cell key deadline) result (view pass.old) (view pass.new) }
     ensures alone { (shape_of hall.now).seats ≡ 1 → is_granted result ≡ true }
@@ -137,6 +143,7 @@ pub(crate) fn ask_put_by<R: Wait, T: Clock>(
     requires idle { IsIdle (view pass.old) }
     requires quota { 1 ≤ (view pass.old).quota }
     ensures pass { IsPassOf hall.now pass.new × IsIdle (view pass.new) }
+    ensures trail { Treads (IsAt cell) (view pass.old) (view pass.new) }
     ensures tells { Tells (cargo_of hall.now) (view pass.old) (view pass.new) index (Query.PutBy cell key value deadline) result }
     ensures forced { IsForced (Query.PutBy cell key value deadline) result (view pass.old) (view pass.new) }
     ensures alone { (shape_of hall.now).seats ≡ 1 → is_granted result ≡ true }

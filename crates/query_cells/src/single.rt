@@ -1,6 +1,7 @@
 //! Queries of one cell, from the lock to its release.
 ghost use Rattle.std.specs.Prelude.{◌≡◌, ◌≢◌, ◌<◌, ◌≤◌, ◌∷◌, [], ℕ, None, true};
 ghost use Rattle.hall.specs.Passes.{view, IsPassOf, shape_of, cargo_of};
+ghost use Rattle.hall.specs.Treading.{IsAt, IsWeakAt, Treads};
 ghost use Rattle.hall.specs.Views.{standing, mode_of};
 ghost use Rattle.hall.specs.declared.view.Standing.TheVariants.{Inline, Exclusive};
 ghost use Rattle.query_rules.specs.declared.query.Query.{Query};
@@ -57,6 +58,7 @@ pub(crate) fn answer_value(
     ensures pass { IsPassOf hall.now pass.new × IsIdle (view pass.new) }
     ensures tells { Tells (cargo_of hall.now) (view pass.old) (view pass.new) index query.now result }
     ensures granted { is_granted result ≡ true }
+    ensures trail { Treads (IsWeakAt ptr.guard.lock) (view pass.old) (view pass.new) }
 {
     let said = look_up(hall, pass, ptr.cell(), key);
     answer_read(hall, pass, ptr, index, query, said)
@@ -85,6 +87,7 @@ pub(crate) fn answer_put(
     ensures pass { IsPassOf hall.now pass.new × IsIdle (view pass.new) }
     ensures tells { Tells (cargo_of hall.now) (view pass.old) (view pass.new) index query.now result }
     ensures granted { is_granted result ≡ true }
+    ensures trail { Treads (IsAt ptr.guard.lock) (view pass.old) (view pass.new) }
 {
     let said = store(hall, pass, ptr.cell(), key, value);
     answer(hall, pass, ptr, index, query, said)
@@ -106,6 +109,7 @@ pub(crate) fn ask_get<R: Wait>(
     ensures pass { IsPassOf hall.now pass.new × IsIdle (view pass.new) }
     ensures tells { Tells (cargo_of hall.now) (view pass.old) (view pass.new) index (Query.Get cell key) result }
     ensures granted { is_granted result ≡ true }
+    ensures trail { Treads (IsWeakAt cell) (view pass.old) (view pass.new) }
 {
     let query = Query::Get { cell, key };
     let ptr = hold_for_reading(rt, hall, pass, cell);
@@ -127,6 +131,7 @@ pub(crate) fn ask_len<R: Wait>(
     ensures pass { IsPassOf hall.now pass.new × IsIdle (view pass.new) }
     ensures tells { Tells (cargo_of hall.now) (view pass.old) (view pass.new) index (Query.Len cell) result }
     ensures granted { is_granted result ≡ true }
+    ensures trail { Treads (IsWeakAt cell) (view pass.old) (view pass.new) }
 {
     let query = Query::Len { cell };
     let ptr = hold_for_reading(rt, hall, pass, cell);
@@ -152,6 +157,7 @@ pub(crate) fn ask_put<R: Wait>(
     ensures pass { IsPassOf hall.now pass.new × IsIdle (view pass.new) }
     ensures tells { Tells (cargo_of hall.now) (view pass.old) (view pass.new) index (Query.Put cell key value) result }
     ensures granted { is_granted result ≡ true }
+    ensures trail { Treads (IsAt cell) (view pass.old) (view pass.new) }
 {
     let query = Query::Put { cell, key, value };
     let ptr = hold_for_writing(rt, hall, pass, cell);
@@ -175,6 +181,7 @@ pub(crate) fn ask_del<R: Wait>(
     ensures pass { IsPassOf hall.now pass.new × IsIdle (view pass.new) }
     ensures tells { Tells (cargo_of hall.now) (view pass.old) (view pass.new) index (Query.Del cell key) result }
     ensures granted { is_granted result ≡ true }
+    ensures trail { Treads (IsAt cell) (view pass.old) (view pass.new) }
 {
     let query = Query::Del { cell, key };
     let ptr = hold_for_writing(rt, hall, pass, cell);
@@ -200,6 +207,7 @@ pub(crate) fn ask_add<R: Wait>(
     ensures pass { IsPassOf hall.now pass.new × IsIdle (view pass.new) }
     ensures tells { Tells (cargo_of hall.now) (view pass.old) (view pass.new) index (Query.Add cell key delta) result }
     ensures granted { is_granted result ≡ true }
+    ensures trail { Treads (IsAt cell) (view pass.old) (view pass.new) }
 {
     let query = Query::Add { cell, key, delta };
     let ptr = hold_for_writing(rt, hall, pass, cell);
@@ -226,6 +234,7 @@ pub(crate) fn ask_cas<R: Wait>(
     ensures pass { IsPassOf hall.now pass.new × IsIdle (view pass.new) }
     ensures tells { Tells (cargo_of hall.now) (view pass.old) (view pass.new) index (Query.Cas cell key old new) result }
     ensures granted { is_granted result ≡ true }
+    ensures trail { Treads (IsAt cell) (view pass.old) (view pass.new) }
 {
     let query = Query::Cas {
         cell,
@@ -256,6 +265,7 @@ pub(crate) fn ask_put_len<R: Wait>(
     ensures pass { IsPassOf hall.now pass.new × IsIdle (view pass.new) }
     ensures tells { Tells (cargo_of hall.now) (view pass.old) (view pass.new) index (Query.PutLen cell key value) result }
     ensures granted { is_granted result ≡ true }
+    ensures trail { Treads (IsAt cell) (view pass.old) (view pass.new) }
 {
     let query = Query::PutLen { cell, key, value };
     let ptr = hold_for_writing(rt, hall, pass, cell);

@@ -2,6 +2,7 @@
 ghost use Rattle.std.specs.Prelude.{◌≡◌, ◌≢◌, ◌<◌, ◌≤◌, ◌∷◌, [], ℕ, true, false};
 ghost use Rattle.hall.specs.Cargo.{shared_mode, exclusive_mode};
 ghost use Rattle.hall.specs.Passes.{view, IsPassOf, shape_of, cargo_of};
+ghost use Rattle.hall.specs.Treading.{IsAt, IsWeakAt, Treads};
 ghost use Rattle.hall.specs.Views.{standing};
 ghost use Rattle.hall.specs.declared.view.Standing.TheVariants.{Inline, Exclusive};
 ghost use Rattle.query_rules.specs.Maps as plain;
@@ -156,6 +157,7 @@ pub(crate) fn answer_read(
     ensures idle { IsIdle (view pass.new) }
     ensures tells { Tells (cargo_of hall.now) (view pass.old) (view pass.new) index query.now result }
     ensures granted { is_granted result ≡ true }
+    ensures trail { Treads (IsWeakAt ptr.guard.lock) (view pass.old) (view pass.new) }
 {
     let reply = tell_read(hall, pass, index, query, said);
     leave_reading(hall, pass, ptr);
@@ -184,6 +186,7 @@ pub(crate) fn answer(
     ensures idle { IsIdle (view pass.new) }
     ensures tells { Tells (cargo_of hall.now) (view pass.old) (view pass.new) index query.now result }
     ensures granted { is_granted result ≡ true }
+    ensures trail { Treads (IsAt ptr.guard.lock) (view pass.old) (view pass.new) }
 {
     let reply = tell(hall, pass, index, query, said);
     leave_writing(hall, pass, ptr);

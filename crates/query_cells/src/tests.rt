@@ -1,6 +1,7 @@
 //! What no clause says: that queries that nothing is in the way of are granted, and that a held cell refuses. Places are
 //! worked out by hand: write number w stands at 2w + 1, and a read after w writes at 2w.
-ghost use Rattle.std.specs.Prelude.{◌≡◌, ◌≤◌, length, IsFalse, OnOk, IfOk};
+ghost use Rattle.std.specs.Prelude.{◌≡◌, ◌<◌, length, IsFalse, IfOk};
+ghost use Rattle.dist_mutex.specs.Passes.{dist_view, IsAtRest, IsDistPassOf};
 ghost use Rattle.hall.specs.Passes.{view, IsPassOf, cargo_of, shape_of};
 ghost use Rattle.query_log.specs.Plain.{cell_count};
 ghost use Rattle.query_rules.specs.Grammar.{TakesBelow};
@@ -10,21 +11,28 @@ ghost use Rattle.map_cargo.specs.Steps.{Suits, IsIdle};
 
 use crate::ask;
 use crate::holding::{hold_for_reading, hold_for_writing, leave_reading, leave_writing};
+use dist_mutex::mutex::DistMutex;
+use dist_mutex::pass::DistPass;
 use hall::{Hall, Pass, Policy};
 use map_cargo::MapCargo;
 use ql_base::{ListClock, NoMemory};
-use query_log::{Ledger, LedgerOut, PlainMaps};
+use query_log::{Ledger, LedgerFault, LedgerJob, LedgerOut, PlainMaps};
 use query_rules::{Query, Reply, Said, Verb};
 use shared_mutex::{announce, retract};
 use std::alloc::Global;
 use std::process::Abort;
 use std::sync::Wait;
 
-// A pass with what it asks by.
-#[derive(Drop)]
+// The hall, and the ledger's lock.
+struct Locks {
+    hall: Hall<MapCargo>,
+    dist: DistMutex<Ledger, LedgerJob>,
+}
+
+// The passes of one caller, with its clock.
 struct Asker {
     pass: Pass<MapCargo>,
-    ledger: Ledger,
+    dist_pass: DistPass<Ledger, LedgerJob>,
     clock: ListClock,
 }
 
@@ -34,7 +42,7 @@ fn open(alloc: Global, policy: Policy) -> Result<(Hall<MapCargo>, Pass<MapCargo>
     ensures idle { IfOk result (λ t. IsIdle (view t.1)) }
     ensures suits { IfOk result (λ t. Suits t.0) }
     ensures cells { IfOk result (λ t. ((shape_of t.0).locks ≡ 2) × ((cargo_of t.0).cells ≡ 2)) }
-    ensures numbers { IfOk result (λ t. ((view t.1).span ≡ 2) × ((view t.1).quota ≡ 20)) }
+    ensures numbers { IfOk result (λ t. ((view t.1).number ≡ 0) × ((view t.1).span ≡ 2) × ((view t.1).quota ≡ 20)) }
 {
     let cargo = MapCargo {
         cells: 2,
@@ -47,27 +55,65 @@ fn open(alloc: Global, policy: Policy) -> Result<(Hall<MapCargo>, Pass<MapCargo>
     }
 }
 
-// Asks while there is quota and room.
+// A lock of two nodes over an empty ledger with room for four jobs, and its first pass.
+fn open_ledger(
+    alloc: Global,
+) -> Result<(DistMutex<Ledger, LedgerJob>, DistPass<Ledger, LedgerJob>), NoMemory>
+    ensures pass { IfOk result (λ t. IsDistPassOf t.0 t.1 × IsAtRest t.1) }
+    ensures numbers { IfOk result (λ t. ((dist_view t.1).number ≡ 0) × ((dist_view t.1).spare ≡ 1) × ((dist_view t.1).quota ≡ 4)) }
+{
+    let ledger = Ledger::make(alloc, 1, 4)?;
+    match DistMutex::make(alloc, 2, 4, 64, ledger) {
+        Ok(made) => Ok(made),
+        Err(_) => Err(NoMemory),
+    }
+}
+
+// Both locks, and a caller with the first pass of each, whose clock answers these.
+fn open_both(alloc: Global, policy: Policy, answers: Vec<u64>) -> Result<(Locks, Asker), NoMemory>
+    requires { 0 < length answers.items }
+    ensures pass { IfOk result (λ t. IsPassOf t.0.hall t.1.pass × IsIdle (view t.1.pass)) }
+    ensures hall { IfOk result (λ t. Suits t.0.hall × ((shape_of t.0.hall).locks ≡ 2) × ((cargo_of t.0.hall).cells ≡ 2)) }
+    ensures dist { IfOk result (λ t. IsDistPassOf t.0.dist t.1.dist_pass × IsAtRest t.1.dist_pass) }
+    ensures number { IfOk result (λ t. (dist_view t.1.dist_pass).number ≡ (view t.1.pass).number) }
+    ensures spare { IfOk result (λ t. (view t.1.pass).span ≡ 2) }
+{
+    let (hall, pass) = open(alloc, policy)?;
+    let (dist, dist_pass) = open_ledger(alloc)?;
+    let asker = Asker {
+        pass,
+        dist_pass,
+        clock: ListClock::new(answers),
+    };
+    Ok((Locks { hall, dist }, asker))
+}
+
+// Asks while both quotas last.
 fn ask_next<R: Abort + Wait>(
     rt: &R,
-    hall: &Hall<MapCargo>,
+    locks: &Locks,
     asker: &mut Asker,
     index: u64,
     query: &Query,
 ) -> Reply
-    requires pass { IsPassOf hall.now asker.old.pass × IsIdle (view asker.old.pass) }
-    requires hall { Suits hall.now × ((shape_of hall.now).locks ≡ 2) × ((cargo_of hall.now).cells ≡ 2) }
+    requires pass { IsPassOf locks.now.hall asker.old.pass × IsIdle (view asker.old.pass) }
+    requires hall { Suits locks.now.hall × ((shape_of locks.now.hall).locks ≡ 2) × ((cargo_of locks.now.hall).cells ≡ 2) }
+    requires dist { IsDistPassOf locks.now.dist asker.old.dist_pass × IsAtRest asker.old.dist_pass }
+    requires number { (dist_view asker.old.dist_pass).number ≡ (view asker.old.pass).number }
     requires cells { TakesBelow 2 query.now }
-    ensures { IsPassOf hall.now asker.new.pass × IsIdle (view asker.new.pass) }
+    ensures pass { IsPassOf locks.now.hall asker.new.pass × IsIdle (view asker.new.pass) }
+    ensures dist { IsDistPassOf locks.now.dist asker.new.dist_pass × IsAtRest asker.new.dist_pass }
+    ensures number { (dist_view asker.new.dist_pass).number ≡ (view asker.new.pass).number }
 {
-    if asker.pass.quota() == 0 || asker.ledger.room() == 0 {
+    if asker.pass.quota() == 0 || asker.dist_pass.quota() == 0 {
         rt.abort();
     }
     ask(
         rt,
-        hall,
+        &locks.hall,
         &mut asker.pass,
-        &mut asker.ledger,
+        &locks.dist,
+        &mut asker.dist_pass,
         &mut asker.clock,
         index,
         query,
@@ -77,173 +123,219 @@ fn ask_next<R: Abort + Wait>(
 // Asks the maps behind the locks and the plain maps the query with these numbers: both say the same, at this place.
 fn both_say<R: Abort + Wait>(
     rt: &R,
-    hall: &Hall<MapCargo>,
+    locks: &Locks,
     asker: &mut Asker,
     maps: &mut PlainMaps,
     verb: Verb,
     numbers: &[u64],
     place: u64,
-) -> Result<(), NoMemory>
-    requires pass { IsPassOf hall.now asker.old.pass × IsIdle (view asker.old.pass) }
-    requires hall { Suits hall.now × ((shape_of hall.now).locks ≡ 2) × ((cargo_of hall.now).cells ≡ 2) }
+)
+    requires pass { IsPassOf locks.now.hall asker.old.pass × IsIdle (view asker.old.pass) }
+    requires hall { Suits locks.now.hall × ((shape_of locks.now.hall).locks ≡ 2) × ((cargo_of locks.now.hall).cells ≡ 2) }
+    requires dist { IsDistPassOf locks.now.dist asker.old.dist_pass × IsAtRest asker.old.dist_pass }
+    requires number { (dist_view asker.old.dist_pass).number ≡ (view asker.old.pass).number }
     requires maps { cell_count maps.old ≡ 2 }
     requires numbers { length numbers.now ≡ arity verb }
     requires cells { TakesBelow 2 (query_of verb numbers.now) }
     requires of_maps { IsFalse (asks_ledger (query_of verb numbers.now)) }
-    ensures pass { IsPassOf hall.now asker.new.pass × IsIdle (view asker.new.pass) }
-    ensures maps { OnOk result (cell_count maps.new ≡ 2) }
+    ensures pass { IsPassOf locks.now.hall asker.new.pass × IsIdle (view asker.new.pass) }
+    ensures dist { IsDistPassOf locks.now.dist asker.new.dist_pass × IsAtRest asker.new.dist_pass }
+    ensures number { (dist_view asker.new.dist_pass).number ≡ (view asker.new.pass).number }
+    ensures maps { cell_count maps.new ≡ 2 }
 {
     let query = verb.query(numbers);
-    let reply = ask_next(rt, hall, asker, place, &query);
-    let said = maps.ask(&query)?;
-    assert_eq!(rt; reply, Reply::Placed { place, said });
-    Ok(())
+    let reply = ask_next(rt, locks, asker, place, &query);
+    match maps.ask(&query) {
+        Ok(said) => assert_eq!(rt; reply, Reply::Placed { place, said }),
+        Err(_) => rt.abort(),
+    }
+}
+
+// Asks the job with this index: it is told this, at this position.
+fn ledger_says<R: Abort + Wait>(
+    rt: &R,
+    locks: &Locks,
+    asker: &mut Asker,
+    query: Query,
+    at: u64,
+    told: Result<LedgerOut, LedgerFault>,
+)
+    requires pass { IsPassOf locks.now.hall asker.old.pass × IsIdle (view asker.old.pass) }
+    requires hall { Suits locks.now.hall × ((shape_of locks.now.hall).locks ≡ 2) × ((cargo_of locks.now.hall).cells ≡ 2) }
+    requires dist { IsDistPassOf locks.now.dist asker.old.dist_pass × IsAtRest asker.old.dist_pass }
+    requires number { (dist_view asker.old.dist_pass).number ≡ (view asker.old.pass).number }
+    requires cells { TakesBelow 2 query }
+    ensures pass { IsPassOf locks.now.hall asker.new.pass × IsIdle (view asker.new.pass) }
+    ensures dist { IsDistPassOf locks.now.dist asker.new.dist_pass × IsAtRest asker.new.dist_pass }
+    ensures number { (dist_view asker.new.dist_pass).number ≡ (view asker.new.pass).number }
+{
+    let reply = ask_next(rt, locks, asker, at, &query);
+    assert_eq!(rt; reply, Reply::Job { at, result: told });
+}
+
+// How many jobs ran on the ledger, at the end.
+fn finish<R: Abort>(rt: &R, locks: Locks, asker: Asker) -> u64
+    requires dist { IsDistPassOf locks.dist asker.dist_pass × IsAtRest asker.dist_pass }
+{
+    let Locks { hall: _, dist } = locks;
+    let Asker {
+        pass: _,
+        dist_pass,
+        clock: _,
+    } = asker;
+    let (kept, _retired) = dist.close(dist_pass);
+    let Some(kept) = kept else { rt.abort() };
+    assert_eq!(rt; kept.value.history().len() as u64, kept.ran);
+    kept.ran
 }
 
 // Each query of one cell that waits, once.
 #[test]
 fn one_cell_says_what_plain_maps_say(rt: HostRuntime) -> Result<(), NoMemory> {
-    let (hall, pass) = open(rt.alloc(), Policy::WritePriority)?;
-    let mut asker = Asker {
-        pass,
-        ledger: Ledger::make(rt.alloc(), 1, 1)?,
-        clock: ListClock::new(vec![in rt.alloc(); 9]?),
-    };
     let mut maps = PlainMaps::make(rt.alloc(), 2, 4)?;
-    both_say(&rt, &hall, &mut asker, &mut maps, Verb::Put, &[0, 7, 5], 1)?;
-    both_say(&rt, &hall, &mut asker, &mut maps, Verb::Get, &[0, 7], 2)?;
-    both_say(&rt, &hall, &mut asker, &mut maps, Verb::Len, &[0], 2)?;
-    both_say(&rt, &hall, &mut asker, &mut maps, Verb::Add, &[0, 7, 3], 3)?;
+    let (locks, mut asker) = open_both(rt.alloc(), Policy::WritePriority, vec![in rt.alloc(); 9]?)?;
+    both_say(&rt, &locks, &mut asker, &mut maps, Verb::Put, &[0, 7, 5], 1);
+    both_say(&rt, &locks, &mut asker, &mut maps, Verb::Get, &[0, 7], 2);
+    both_say(&rt, &locks, &mut asker, &mut maps, Verb::Len, &[0], 2);
+    both_say(&rt, &locks, &mut asker, &mut maps, Verb::Add, &[0, 7, 3], 3);
     both_say(
         &rt,
-        &hall,
+        &locks,
         &mut asker,
         &mut maps,
         Verb::Cas,
         &[0, 7, 8, 9],
         5,
-    )?;
+    );
     both_say(
         &rt,
-        &hall,
+        &locks,
         &mut asker,
         &mut maps,
         Verb::PutLen,
         &[0, 8, 1],
         7,
-    )?;
-    both_say(&rt, &hall, &mut asker, &mut maps, Verb::Del, &[0, 8], 9)?;
+    );
+    both_say(&rt, &locks, &mut asker, &mut maps, Verb::Del, &[0, 8], 9);
+    assert_eq!(rt; finish(&rt, locks, asker), 0);
     Ok(())
 }
 
 // The queries of two cells, and those that may be refused.
 #[test]
 fn two_cells_say_what_plain_maps_say(rt: HostRuntime) -> Result<(), NoMemory> {
-    let (hall, pass) = open(rt.alloc(), Policy::WritePriority)?;
-    let mut asker = Asker {
-        pass,
-        ledger: Ledger::make(rt.alloc(), 1, 1)?,
-        clock: ListClock::new(vec![in rt.alloc(); 9]?),
-    };
     let mut maps = PlainMaps::make(rt.alloc(), 2, 4)?;
+    let (locks, mut asker) = open_both(rt.alloc(), Policy::WritePriority, vec![in rt.alloc(); 9]?)?;
     both_say(
         &rt,
-        &hall,
+        &locks,
         &mut asker,
         &mut maps,
         Verb::TryPut,
         &[0, 7, 9],
         1,
-    )?;
+    );
     both_say(
         &rt,
-        &hall,
+        &locks,
         &mut asker,
         &mut maps,
         Verb::Move,
         &[0, 1, 7, 4],
         3,
-    )?;
-    both_say(&rt, &hall, &mut asker, &mut maps, Verb::Both, &[0, 1, 7], 4)?;
-    both_say(&rt, &hall, &mut asker, &mut maps, Verb::TryGet, &[1, 7], 4)?;
+    );
     both_say(
         &rt,
-        &hall,
+        &locks,
+        &mut asker,
+        &mut maps,
+        Verb::Both,
+        &[0, 1, 7],
+        4,
+    );
+    both_say(&rt, &locks, &mut asker, &mut maps, Verb::TryGet, &[1, 7], 4);
+    both_say(
+        &rt,
+        &locks,
         &mut asker,
         &mut maps,
         Verb::PutBy,
         &[1, 9, 2, 0],
         5,
-    )?;
+    );
     both_say(
         &rt,
-        &hall,
+        &locks,
         &mut asker,
         &mut maps,
         Verb::GetBy,
         &[1, 9, 0],
         6,
-    )?;
+    );
+    assert_eq!(rt; finish(&rt, locks, asker), 0);
     Ok(())
 }
 
 // The jobs of one pass: what each leaves of the one account.
 #[test]
 fn jobs_keep_one_account(rt: HostRuntime) -> Result<(), NoMemory> {
-    let (hall, pass) = open(rt.alloc(), Policy::WritePriority)?;
-    let mut asker = Asker {
-        pass,
-        ledger: Ledger::make(rt.alloc(), 1, 3)?,
-        clock: ListClock::new(vec![in rt.alloc(); 9]?),
-    };
+    let (locks, mut asker) = open_both(rt.alloc(), Policy::WritePriority, vec![in rt.alloc(); 9]?)?;
     let give = Query::Give { key: 1, n: 10 };
-    let reply = ask_next(&rt, &hall, &mut asker, 0, &give);
-    let result = Ok(LedgerOut::Now(10));
-    assert_eq!(rt; reply, Reply::Job { at: 0, result });
+    ledger_says(&rt, &locks, &mut asker, give, 0, Ok(LedgerOut::Now(10)));
     let take = Query::Take { key: 1, n: 4 };
-    let reply = ask_next(&rt, &hall, &mut asker, 1, &take);
-    let result = Ok(LedgerOut::Now(6));
-    assert_eq!(rt; reply, Reply::Job { at: 1, result });
-    let reply = ask_next(&rt, &hall, &mut asker, 2, &Query::Audit);
-    let result = Ok(LedgerOut::Sum(6));
-    assert_eq!(rt; reply, Reply::Job { at: 2, result });
+    ledger_says(&rt, &locks, &mut asker, take, 1, Ok(LedgerOut::Now(6)));
+    let more = Query::Take { key: 1, n: 9 };
+    ledger_says(&rt, &locks, &mut asker, more, 2, Err(LedgerFault::Short(6)));
+    ledger_says(
+        &rt,
+        &locks,
+        &mut asker,
+        Query::Audit,
+        3,
+        Ok(LedgerOut::Sum(6)),
+    );
+    assert_eq!(rt; asker.dist_pass.quota(), 0);
+    assert_eq!(rt; finish(&rt, locks, asker), 4);
     Ok(())
 }
 
 // Asks, and gets this reply.
 fn is_told<R: Abort + Wait>(
     rt: &R,
-    hall: &Hall<MapCargo>,
+    locks: &Locks,
     asker: &mut Asker,
     query: &Query,
     expected: Reply,
 )
-    requires pass { IsPassOf hall.now asker.old.pass × IsIdle (view asker.old.pass) }
-    requires hall { Suits hall.now × ((shape_of hall.now).locks ≡ 2) × ((cargo_of hall.now).cells ≡ 2) }
+    requires pass { IsPassOf locks.now.hall asker.old.pass × IsIdle (view asker.old.pass) }
+    requires hall { Suits locks.now.hall × ((shape_of locks.now.hall).locks ≡ 2) × ((cargo_of locks.now.hall).cells ≡ 2) }
+    requires dist { IsDistPassOf locks.now.dist asker.old.dist_pass × IsAtRest asker.old.dist_pass }
+    requires number { (dist_view asker.old.dist_pass).number ≡ (view asker.old.pass).number }
     requires cells { TakesBelow 2 query.now }
-    ensures { IsPassOf hall.now asker.new.pass × IsIdle (view asker.new.pass) }
+    ensures pass { IsPassOf locks.now.hall asker.new.pass × IsIdle (view asker.new.pass) }
+    ensures dist { IsDistPassOf locks.now.dist asker.new.dist_pass × IsAtRest asker.new.dist_pass }
+    ensures number { (dist_view asker.new.dist_pass).number ≡ (view asker.new.pass).number }
 {
-    let reply = ask_next(rt, hall, asker, 0, query);
+    let reply = ask_next(rt, locks, asker, 0, query);
     assert_eq!(rt; reply, expected);
 }
 
 // Asks cell 0 each query that may be refused, with the deadline 5, and gets these replies.
-fn four_are_told<R: Abort + Wait>(
-    rt: &R,
-    hall: &Hall<MapCargo>,
-    asker: &mut Asker,
-    expected: [Reply; 4],
-)
-    requires pass { IsPassOf hall.now asker.old.pass × IsIdle (view asker.old.pass) }
-    requires hall { Suits hall.now × ((shape_of hall.now).locks ≡ 2) × ((cargo_of hall.now).cells ≡ 2) }
-    ensures { IsPassOf hall.now asker.new.pass × IsIdle (view asker.new.pass) }
+fn four_are_told<R: Abort + Wait>(rt: &R, locks: &Locks, asker: &mut Asker, expected: [Reply; 4])
+    requires pass { IsPassOf locks.now.hall asker.old.pass × IsIdle (view asker.old.pass) }
+    requires hall { Suits locks.now.hall × ((shape_of locks.now.hall).locks ≡ 2) × ((cargo_of locks.now.hall).cells ≡ 2) }
+    requires dist { IsDistPassOf locks.now.dist asker.old.dist_pass × IsAtRest asker.old.dist_pass }
+    requires number { (dist_view asker.old.dist_pass).number ≡ (view asker.old.pass).number }
+    ensures pass { IsPassOf locks.now.hall asker.new.pass × IsIdle (view asker.new.pass) }
+    ensures dist { IsDistPassOf locks.now.dist asker.new.dist_pass × IsAtRest asker.new.dist_pass }
+    ensures number { (dist_view asker.new.dist_pass).number ≡ (view asker.new.pass).number }
 {
     let [try_get, try_put, get_by, put_by] = expected;
     let (cell, key, value, deadline) = (0, 7, 1, 5);
-    is_told(rt, hall, asker, &Query::TryGet { cell, key }, try_get);
+    is_told(rt, locks, asker, &Query::TryGet { cell, key }, try_get);
     is_told(
         rt,
-        hall,
+        locks,
         asker,
         &Query::TryPut { cell, key, value },
         try_put,
@@ -253,27 +345,14 @@ fn four_are_told<R: Abort + Wait>(
         key,
         deadline,
     };
-    is_told(rt, hall, asker, &query, get_by);
+    is_told(rt, locks, asker, &query, get_by);
     let query = Query::PutBy {
         cell,
         key,
         value,
         deadline,
     };
-    is_told(rt, hall, asker, &query, put_by);
-}
-
-// What a seat asks by whose clock answers 3, 5, 4 and 9.
-fn asker_with(alloc: Global, pass: Pass<MapCargo>) -> Result<Asker, NoMemory>
-    ensures pass { IfOk result (λ asker. asker.pass ≡ pass) }
-{
-    let ledger = Ledger::make(alloc, 1, 1)?;
-    let clock = ListClock::new(vec![in alloc; 3, 5, 4, 9]?);
-    Ok(Asker {
-        pass,
-        ledger,
-        clock,
-    })
+    is_told(rt, locks, asker, &query, put_by);
 }
 
 // The replies beside a seat that holds the cell for writing.
@@ -283,13 +362,12 @@ fn beside_a_writer<R: Abort + Wait>(
     policy: Policy,
     expected: [Reply; 4],
 ) -> Result<(), NoMemory> {
-    let (hall, first) = open(alloc, policy)?;
-    let mut writer = first;
-    let pass = hall.split(&mut writer, 1, 20);
-    let mut asker = asker_with(alloc, pass)?;
-    let held = hold_for_writing(rt, &hall, &mut writer, 0);
-    four_are_told(rt, &hall, &mut asker, expected);
-    leave_writing(&hall, &mut writer, held);
+    let (locks, mut asker) = open_both(alloc, policy, vec![in alloc; 3, 5, 4, 9]?)?;
+    let mut writer = locks.hall.split(&mut asker.pass, 1, 0);
+    let held = hold_for_writing(rt, &locks.hall, &mut writer, 0);
+    four_are_told(rt, &locks, &mut asker, expected);
+    leave_writing(&locks.hall, &mut writer, held);
+    assert_eq!(rt; finish(rt, locks, asker), 0);
     Ok(())
 }
 
@@ -300,13 +378,12 @@ fn beside_a_reader<R: Abort + Wait>(
     policy: Policy,
     expected: [Reply; 4],
 ) -> Result<(), NoMemory> {
-    let (hall, first) = open(alloc, policy)?;
-    let mut reader = first;
-    let pass = hall.split(&mut reader, 1, 20);
-    let mut asker = asker_with(alloc, pass)?;
-    let held = hold_for_reading(rt, &hall, &mut reader, 0);
-    four_are_told(rt, &hall, &mut asker, expected);
-    leave_reading(&hall, &mut reader, held);
+    let (locks, mut asker) = open_both(alloc, policy, vec![in alloc; 3, 5, 4, 9]?)?;
+    let mut reader = locks.hall.split(&mut asker.pass, 1, 0);
+    let held = hold_for_reading(rt, &locks.hall, &mut reader, 0);
+    four_are_told(rt, &locks, &mut asker, expected);
+    leave_reading(&locks.hall, &mut reader, held);
+    assert_eq!(rt; finish(rt, locks, asker), 0);
     Ok(())
 }
 
@@ -317,15 +394,14 @@ fn beside_a_paused_writer<R: Abort + Wait>(
     policy: Policy,
     expected: [Reply; 4],
 ) -> Result<(), NoMemory> {
-    let (hall, first) = open(alloc, policy)?;
-    let mut writer = first;
-    let pass = hall.split(&mut writer, 1, 20);
-    let mut asker = asker_with(alloc, pass)?;
-    let Ok(announced) = announce(&hall, &mut writer, 0) else {
+    let (locks, mut asker) = open_both(alloc, policy, vec![in alloc; 3, 5, 4, 9]?)?;
+    let mut writer = locks.hall.split(&mut asker.pass, 1, 0);
+    let Ok(announced) = announce(&locks.hall, &mut writer, 0) else {
         rt.abort()
     };
-    four_are_told(rt, &hall, &mut asker, expected);
-    retract(&hall, &mut writer, announced);
+    four_are_told(rt, &locks, &mut asker, expected);
+    retract(&locks.hall, &mut writer, announced);
+    assert_eq!(rt; finish(rt, locks, asker), 0);
     Ok(())
 }
 

@@ -1,6 +1,7 @@
 //! Queries of two cells, which are held one after the other, the lower number first.
 ghost use Rattle.std.specs.Prelude.{◌≡◌, ◌≢◌, ◌<◌, ◌≤◌, ◌⊎◌, ◌∷◌, [], ℕ, Some, true, unwrap_or};
 ghost use Rattle.hall.specs.Passes.{view, IsPassOf, shape_of, cargo_of};
+ghost use Rattle.hall.specs.Treading.{Treads};
 ghost use Rattle.hall.specs.Views.{standing};
 ghost use Rattle.hall.specs.declared.view.Standing.TheVariants.{Inline, Exclusive};
 ghost use Rattle.query_rules.specs.declared.query.Query.{Query};
@@ -8,8 +9,8 @@ ghost use Rattle.query_rules.specs.Maps.{no_entries, reply_of, less};
 ghost use Rattle.map_cargo.specs.Cells.{Means};
 ghost use Rattle.map_cargo.specs.History.{words_of, plain_of, IsSettled, IsRested};
 ghost use Rattle.map_cargo.specs.Steps.{Suits, Alike, Reworded, IsIdle, Left};
-ghost use Rattle.query_cells.specs.Asked.{is_granted};
-ghost use Rattle.query_cells.specs.Answers.{ChangesWords, HoldsTwo, LeadsBack, Leaves, Tells, TellsNothing};
+ghost use Rattle.query_cells.specs.Asked.{MayTread, is_granted};
+ghost use Rattle.query_cells.specs.Answers.{ChangesWords, HoldsTwo, IsAtEither, IsWeakAtEither, LeadsBack, Leaves, Tells, TellsNothing};
 
 use crate::holding::{hold_for_reading, hold_for_writing, leave_reading, leave_writing};
 use crate::telling::{tell, tell_read};
@@ -48,6 +49,7 @@ fn hold_two_for_writing<R: Wait>(
     ensures cells { (result.0.guard.lock ≡ low) × (result.1.guard.lock ≡ high) }
     ensures held { HoldsTwo low high Exclusive (view pass.new) }
     ensures nothing { TellsNothing (view pass.old) (view pass.new) }
+    ensures trail { Treads (IsAtEither low high) (view pass.old) (view pass.new) }
 {
     let first = hold_for_writing(rt, hall, pass, low);
     let second = hold_for_writing(rt, hall, pass, high);
@@ -70,6 +72,7 @@ fn hold_two_for_reading<R: Wait>(
     ensures cells { (result.0.guard.lock ≡ low) × (result.1.guard.lock ≡ high) }
     ensures held { HoldsTwo low high Inline (view pass.new) }
     ensures nothing { TellsNothing (view pass.old) (view pass.new) }
+    ensures trail { Treads (IsWeakAtEither low high) (view pass.old) (view pass.new) }
 {
     let first = hold_for_reading(rt, hall, pass, low);
     let second = hold_for_reading(rt, hall, pass, high);
@@ -92,6 +95,7 @@ fn leave_two_writing(
     ensures idle { IsIdle (view pass.new) }
     ensures left { Left (view pass.old) (view pass.new) }
     ensures back { LeadsBack (cargo_of hall.now) (view pass.old) (view pass.new) }
+    ensures trail { Treads (IsAtEither first.guard.lock second.guard.lock) (view pass.old) (view pass.new) }
 {
     leave_writing(hall, pass, second);
     leave_writing(hall, pass, first);
@@ -113,6 +117,7 @@ fn leave_two_reading(
     ensures idle { IsIdle (view pass.new) }
     ensures left { Left (view pass.old) (view pass.new) }
     ensures back { LeadsBack (cargo_of hall.now) (view pass.old) (view pass.new) }
+    ensures trail { Treads (IsWeakAtEither first.guard.lock second.guard.lock) (view pass.old) (view pass.new) }
 {
     leave_reading(hall, pass, second);
     leave_reading(hall, pass, first);
@@ -226,6 +231,7 @@ pub(crate) fn ask_move<R: Wait>(
     ensures pass { IsPassOf hall.now pass.new × IsIdle (view pass.new) }
     ensures tells { Tells (cargo_of hall.now) (view pass.old) (view pass.new) index (Query.Move from to key n) result }
     ensures granted { is_granted result ≡ true }
+    ensures trail { Treads (MayTread (Query.Move from to key n)) (view pass.old) (view pass.new) }
 {
     let query = Query::Move { from, to, key, n };
     if from == to {
@@ -256,6 +262,7 @@ pub(crate) fn ask_both<R: Wait>(
     ensures pass { IsPassOf hall.now pass.new × IsIdle (view pass.new) }
     ensures tells { Tells (cargo_of hall.now) (view pass.old) (view pass.new) index (Query.Both first second key) result }
     ensures granted { is_granted result ≡ true }
+    ensures trail { Treads (MayTread (Query.Both first second key)) (view pass.old) (view pass.new) }
 {
     let query = Query::Both { first, second, key };
     if first == second {

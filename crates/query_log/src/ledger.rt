@@ -1,7 +1,7 @@
 // The plain ledger.
-ghost use Rattle.std.specs.Prelude.{◌≡◌, ◌-◌, ◌≤◌, ◌++◌, ◌∷◌, [], IfOk};
+ghost use Rattle.std.specs.Prelude.{◌≡◌, ◌≤◌, [], IfOk};
 ghost use Rattle.query_rules.specs.Ledger.{result_of, accounts_of};
-ghost use Rattle.query_log.specs.Ledgers.{accounts_in, entry_of};
+ghost use Rattle.query_log.specs.Ledgers.{accounts_in, with_job};
 
 use crate::accounts::AccountBook;
 use crate::{LedgerAct, LedgerEntry, LedgerFault, LedgerJob, LedgerOut};
@@ -63,7 +63,7 @@ impl Ledger {
         requires room { 1 ≤ self.old.room }
         ensures result { result ≡ result_of self.old.rows (accounts_in self.old) job.act }
         ensures accounts { accounts_in self.new ≡ accounts_of self.old.rows (accounts_in self.old) job.act }
-        ensures entry { self.new ≡ record { rows = self.old.rows; room = self.old.room - 1; entries = self.old.entries ++ entry_of job result ∷ [] } }
+        ensures entry { self.new ≡ with_job self.old job result }
     {
         let result = self.book.run(job.act);
         let entry = LedgerEntry {

@@ -7,6 +7,10 @@ ghost use Rattle.query_rules.specs.Verbs.{arity, query_of};
 ghost use Rattle.query_log.specs.Plain.{cell_count};
 
 use crate::{Ledger, LedgerAct, LedgerEntry, LedgerFault, LedgerJob, LedgerOut, PlainMaps};
+use combine_job::job::Room;
+use combine_job::once::OnceJob;
+use combine_job::parcel::Kept;
+use combine_job::run::run_kept;
 use ql_base::NoMemory;
 use query_rules::{Said, Verb};
 
@@ -152,5 +156,26 @@ fn a_ledger_tells_every_result(rt: HostRuntime) -> Result<(), NoMemory> {
         result: Ok(LedgerOut::Sum(18_446_744_073_709_551_621)),
     };
     assert_eq!(rt; ledger.history().last().copied(), Some(last));
+    Ok(())
+}
+
+#[test]
+fn a_kept_ledger_counts_a_refused_job(rt: HostRuntime) -> Result<(), NoMemory> {
+    let mut kept = Kept {
+        value: Ledger::make(rt.alloc(), 1, 2)?,
+        ran: 0,
+    };
+    assert_eq!(rt; Room::room(&kept.value), 2);
+    let take = LedgerAct::Take { key: 1, n: 4 };
+    let answer = run_kept(&mut kept, job(0, take));
+    assert_eq!(rt; answer.at, 0);
+    assert_eq!(rt; answer.result, Err(LedgerFault::Short(0)));
+    assert_eq!(rt; kept.ran, 1);
+    assert_eq!(rt; kept.value.history().len(), 1);
+    let again = OnceJob::new(|ledger: &mut Ledger| ledger.run_plain(job(1, take)));
+    let answer = run_kept(&mut kept, again);
+    assert_eq!(rt; answer.at, 1);
+    assert_eq!(rt; answer.result, Err(LedgerFault::Short(0)));
+    assert_eq!(rt; kept.ran, 2);
     Ok(())
 }

@@ -1,5 +1,6 @@
 mod Examples
 pub mod Kept
+pub mod Licences
 mod Numbers
 pub mod Jobs
 pub mod ReplyKinds

@@ -1,7 +1,9 @@
 pub mod Words
 pub mod Verbs
+pub mod Soak
 pub mod Grammar
 pub mod Maps
 pub mod History
 pub mod Ledger
 pub mod Log
+pub mod Licence

@@ -1,4 +1,4 @@
--- How much of the quota, of the ledger's room and of the hall's words the queries that are left need.
+-- How much of the two quotas and of the hall's words the queries that are left need.
 use Rattle.std.proofs.Common.{◌≡◌, ℕ, ◌+◌, ◌-◌, ◌≤◌, Bool, true, false, cond, List, [], ◌∷◌, length, take, drop, get_or, count_by, refl, ap, ◌∙◌, sym, subst, arith, is_some, MatchBool}
 use Rattle.std.proofs.lemmas.List.Sums.{sum_by-cons}
 use Rattle.std.proofs.lemmas.List.{take_rest}
@@ -11,8 +11,8 @@ use Rattle.query_rules.specs.declared.query.Reply.TheVariants.{Placed, Busy, Lat
 use Rattle.query_rules.specs.Maps.{is_write, may_write}
 use Rattle.query_rules.specs.Ledger.{act_of}
 use Rattle.query_rules.specs.History.{IsKindFor, has_said, is_value, is_count, is_both, asks_ledger}
-use Rattle.query_log.specs.Ledgers.{LedgerView}
-use Rattle.query_cells.specs.Asked.{AddsJob, tells_write}
+use Rattle.waiter_chain.specs.declared.view.View.{View as ChainView}
+use Rattle.query_cells.specs.Asked.{AddsJob, LedgerParcel, tells_write}
 use Rattle.server_run.specs.Alone.{jobs_of, writes_of}
 
 never : {A : Type 0} → false ≡ true → A
@@ -150,15 +150,15 @@ quota_left rest d reply old new some enough kind fell = fell_by (may_write (get_
 pub job_here : (rest : List Query) (d : Query) (room : ℕ) → 1 ≤ length rest → jobs_of rest ≤ room → asks_ledger (get_or rest 0 d) ≡ true → 1 ≤ room
 job_here rest d room some enough is = one_if_true (is_some (act_of (get_or rest 0 d))) _ room (count_next (λ (q : Query). is_some (act_of q)) rest d room some enough) (sym (job_asks (get_or rest 0 d)) ∙ is)
 
-room_after : (number index : ℕ) (q : Query) (reply : Reply) (old new : LedgerView) (rest : ℕ) → AddsJob number index q reply old new → cond (is_some (act_of q)) 1 0 + rest ≤ old.room → rest ≤ new.room
-room_after number index q (Placed place said) old new rest job enough = let same = ap (λ (l : LedgerView). l.room) job in omega (arith, same, enough)
-room_after number index q Busy old new rest job enough = let same = ap (λ (l : LedgerView). l.room) job in omega (arith, same, enough)
-room_after number index q (Late now) old new rest job enough = let same = ap (λ (l : LedgerView). l.room) job in omega (arith, same, enough)
-room_after number index q (Job at result) old new rest job enough =
+quota_after : (number index : ℕ) (q : Query) (reply : Reply) (old new : ChainView LedgerParcel) (rest : ℕ) → AddsJob number index q reply old new → cond (is_some (act_of q)) 1 0 + rest ≤ old.quota → rest ≤ new.quota
+quota_after number index q (Placed place said) old new rest job enough = let same = ap (λ (v : ChainView LedgerParcel). v.quota) job in omega (arith, same, enough)
+quota_after number index q Busy old new rest job enough = let same = ap (λ (v : ChainView LedgerParcel). v.quota) job in omega (arith, same, enough)
+quota_after number index q (Late now) old new rest job enough = let same = ap (λ (v : ChainView LedgerParcel). v.quota) job in omega (arith, same, enough)
+quota_after number index q (Job at result) old new rest job enough =
     let asks : is_some (act_of q) ≡ true = ap is_some job.1 in
-    let fell : new.room ≡ old.room - 1 = ap (λ (l : LedgerView). l.room) job.4 in
-    less_one true rest old.room new.room (subst (λ (b : Bool). cond b 1 0 + rest ≤ old.room) asks enough) fell
+    let fell : new.quota ≡ old.quota - 1 = (let paid = job.2.quota in omega (arith, paid)) in
+    less_one true rest old.quota new.quota (subst (λ (b : Bool). cond b 1 0 + rest ≤ old.quota) asks enough) fell
 
 -- and for those behind it
-pub jobs_left : (number index : ℕ) (rest : List Query) (d : Query) (reply : Reply) (old new : LedgerView) → 1 ≤ length rest → jobs_of rest ≤ old.room → AddsJob number index (get_or rest 0 d) reply old new → jobs_of (take (length rest - 1) (drop 1 rest)) ≤ new.room
-jobs_left number index rest d reply old new some enough job = room_after number index (get_or rest 0 d) reply old new _ job (count_next (λ (q : Query). is_some (act_of q)) rest d old.room some enough)
+pub jobs_left : (number index : ℕ) (rest : List Query) (d : Query) (reply : Reply) (old new : ChainView LedgerParcel) → 1 ≤ length rest → jobs_of rest ≤ old.quota → AddsJob number index (get_or rest 0 d) reply old new → jobs_of (take (length rest - 1) (drop 1 rest)) ≤ new.quota
+jobs_left number index rest d reply old new some enough job = quota_after number index (get_or rest 0 d) reply old new _ job (count_next (λ (q : Query). is_some (act_of q)) rest d old.quota some enough)

@@ -1,18 +1,52 @@
--- The jobs of one caller are one history of the ledger.
-use Rattle.std.proofs.Common.{◌≡◌, ℕ, ◌+◌, ◌<◌, ◌≤◌, ◌==◌, Bool, true, false, cond, List, [], ◌∷◌, ◌++◌, length, refl, sym, ap, ◌∙◌, append_assoc, arith, Some, None, zip, count_by, slice_get, length-append, inl, inr, Option}
-use Rattle.std.proofs.Math.Nat.{eq-or-lt_of_le}
+-- The jobs of one caller are one history of the ledger: the one that led from the first ledger to the last.
+use Rattle.std.proofs.Common.{◌≡◌, ℕ, suc, ◌+◌, ◌<◌, ◌≤◌, ◌==◌, nat_lt, Bool, true, false, cond, List, [], ◌∷◌, ◌++◌, length, map, take, get_or, refl, sym, ap, ◌∙◌, subst, arith, eq-eqb, Option, Some, Ok, Err, zip, count_by, slice_get}
+use mathlib.Core.Logic.{dite}
+use native.Mathlib.Decide.{dec_lt}
+use Rattle.std.proofs.lemmas.Bool.{lt-ltb, eqb-true}
 use Rattle.std.proofs.lemmas.List.Sums.{sum_by-cons}
+use Rattle.std.proofs.lemmas.List.{map-append}
 use Rattle.std.specs.List.{AllByRecursion}
-use Rattle.std.proofs.Math.Seq.{take-append_seam}
+use Rattle.view_sums.specs.Sums.{total, total-append, same-refl}
+use Rattle.waiter_chain.specs.Goods.{Runs}
+use Rattle.waiter_chain.specs.Chains.{covers, within}
+use Rattle.waiter_chain.specs.declared.view.Opening.{Opening}
+use Rattle.waiter_chain.specs.declared.view.View.{View as ChainView}
+use Rattle.combine_job.specs.declared.parcel.JobAnswer.{JobAnswer}
+use Rattle.combine_job.specs.declared.parcel.Kept.{Kept}
+use Rattle.combine_job.specs.declared.parcel.Parcel.TheVariants as parcel
+use Rattle.combine_job.specs.Parcels.{Related, answer_to, place as counts_at, places}
+use Rattle.combine_job.specs.Laws.{value-injective}
+use Rattle.combine_job.proofs.Positions.{history-length}
+use Rattle.dist_mutex.specs.Owners.{Ends}
+use Rattle.dist_mutex.specs.Passes.{SameNumbers}
 use Rattle.query_rules.specs.declared.query.Query.{Query}
 use Rattle.query_rules.specs.declared.query.LedgerAct.{LedgerAct}
+use Rattle.query_rules.specs.declared.query.LedgerAct.TheVariants.{Give, Take, Audit}
+use Rattle.query_rules.specs.declared.query.LedgerTold.{LedgerTold}
+use Rattle.query_rules.specs.declared.query.LedgerTrouble.{LedgerTrouble}
+use Rattle.query_rules.specs.declared.query.LedgerTold.TheVariants.{Now, Sum}
+use Rattle.query_rules.specs.declared.query.LedgerTrouble.TheVariants.{Over, Full, Short}
 use Rattle.query_rules.specs.declared.query.Said.{Said}
 use Rattle.query_rules.specs.declared.query.Reply.{Reply}
 use Rattle.query_rules.specs.declared.query.Reply.TheVariants.{Placed, Busy, Late, Job}
-use Rattle.query_rules.specs.Ledger.{Accounts, LedgerResult, no_accounts, act_of, result_of, accounts_of, run_all, ledger_at, RunsAt, is_job_at, IsLegalLedger}
+use Rattle.query_rules.specs.Ledger.{Accounts, LedgerResult, no_accounts, act_of, result_of, accounts_of, run_all, RunsAt, is_job_at, IsLegalLedger}
 use Rattle.query_rules.specs.History.{Precedes}
 use Rattle.query_rules.proofs.Jobs.{run_all_push}
-use Rattle.server_run.specs.Alone.{RanAlone}
+use Rattle.query_log.specs.declared.job.LedgerEntry.{LedgerEntry}
+use Rattle.query_log.specs.declared.job.LedgerJob.{LedgerJob}
+use Rattle.query_log.specs.Ledgers.{LedgerView, Means, accounts_in, made_by, entry_of}
+use Rattle.query_cells.specs.Asked.{LedgerParcel, LedgerRun, answer_for}
+use Rattle.server_run.specs.Alone.{AnsweredAlone}
+
+abbrev rooms : LedgerView → ℕ
+rooms ledger = ledger.room
+
+-- an answer of the pass's own list counts 1 at its own position
+own_place : (number index : ℕ) (act : LedgerAct) (at : ℕ) (result : LedgerResult) → counts_at at (answer_for number index act at result).1 ≡ 1
+own_place number index act at result = same-refl at
+
+push_total : (w : LedgerRun → ℕ) (own : List LedgerRun) (x : LedgerRun) → total w (own ++ x ∷ []) ≡ total w own + w x
+push_total w own x = omega (arith, total-append w own (x ∷ []))
 
 -- no position is below this
 abbrev pub IsJobFrom : ℕ → Reply → Type 0
@@ -21,16 +55,17 @@ IsJobFrom least Busy = Unit {0}
 IsJobFrom least (Late now) = Unit {0}
 IsJobFrom least (Job at result) = least ≤ at
 
-pub jobs_from : (rows : ℕ) (accounts : Accounts) (p least : ℕ) (queries : List Query) (replies : List Reply) → least ≤ p → RanAlone rows accounts p queries replies → AllByRecursion (IsJobFrom least) replies
-jobs_from rows accounts p least [] [] low r = tt
-jobs_from rows accounts p least [] (reply ∷ replies) low r = absurd r
-jobs_from rows accounts p least (q ∷ queries) [] low r = absurd r
-jobs_from rows accounts p least (q ∷ queries) (Placed place said ∷ replies) low r = (tt, jobs_from rows accounts p least queries replies low r)
-jobs_from rows accounts p least (q ∷ queries) (Busy ∷ replies) low r = absurd r
-jobs_from rows accounts p least (q ∷ queries) (Late now ∷ replies) low r = absurd r
-jobs_from rows accounts p least (q ∷ queries) (Job at result ∷ replies) low r =
-    let same = r.2 in
-    (omega (arith, low, same), jobs_from rows (accounts_of rows accounts r.0) (p + 1) least queries replies (omega (arith, low)) r.4)
+-- behind an answer all positions are above its own
+pub jobs_above : (number index : ℕ) (own : List LedgerRun) (qs : List Query) (rs : List Reply) (later : List LedgerRun) (at : ℕ) → 1 ≤ places at own → AnsweredAlone number index own qs rs later → AllByRecursion (IsJobFrom (at + 1)) rs
+jobs_above number index own [] [] later at has h = tt
+jobs_above number index own [] (r ∷ rs) later at has h = absurd h
+jobs_above number index own (q ∷ qs) [] later at has h = absurd h
+jobs_above number index own (q ∷ qs) (Placed place said ∷ rs) later at has h = (tt, jobs_above number (index + 1) own qs rs later at has h)
+jobs_above number index own (q ∷ qs) (Busy ∷ rs) later at has h = absurd h
+jobs_above number index own (q ∷ qs) (Late now ∷ rs) later at has h = absurd h
+jobs_above number index own (q ∷ qs) (Job next result ∷ rs) later at has h =
+    let x : LedgerRun = answer_for number index h.0 next result in
+    (dite (dec_lt at next) (λ less. omega (arith, less)) (λ more. absurd (let none = h.2 at (omega (arith, more)) in omega (arith, none, has))), jobs_above number (index + 1) (own ++ x ∷ []) qs rs later at (omega (arith, has, push_total (λ z. counts_at at z.1) own x)) h.3)
 
 job_precedes_one : (at : ℕ) (result : LedgerResult) (reply : Reply) → IsJobFrom (at + 1) reply → Precedes (Job at result) reply
 job_precedes_one at result (Placed place said) h = tt
@@ -42,50 +77,23 @@ pub job_precedes : (at : ℕ) (result : LedgerResult) (replies : List Reply) →
 job_precedes at result [] h = tt
 job_precedes at result (reply ∷ replies) h = (job_precedes_one at result reply h.0, job_precedes at result replies h.1)
 
--- the jobs of the replies
-abbrev with_job : Option LedgerAct → List LedgerAct → List LedgerAct
-with_job (Some act) later = act ∷ later
-with_job None later = later
+-- a job precedes all that is told behind it
+pub answer_precedes : (number index : ℕ) (own : List LedgerRun) (act : LedgerAct) (at : ℕ) (result : LedgerResult) (qs : List Query) (rs : List Reply) (later : List LedgerRun)
+    → AnsweredAlone number (index + 1) (own ++ answer_for number index act at result ∷ []) qs rs later → AllByRecursion (Precedes (Job at result)) rs
+answer_precedes number index own act at result qs rs later h =
+    let x : LedgerRun = answer_for number index act at result in
+    job_precedes at result rs (jobs_above number (index + 1) (own ++ x ∷ []) qs rs later at (omega (arith, push_total (λ z. counts_at at z.1) own x, own_place number index act at result)) h)
 
-abbrev later_jobs : List Query → List Reply → List LedgerAct
-later_jobs [] replies = []
-later_jobs (q ∷ queries) [] = []
-later_jobs (q ∷ queries) (Placed place said ∷ replies) = later_jobs queries replies
-later_jobs (q ∷ queries) (Busy ∷ replies) = later_jobs queries replies
-later_jobs (q ∷ queries) (Late now ∷ replies) = later_jobs queries replies
-later_jobs (q ∷ queries) (Job at result ∷ replies) = with_job (act_of q) (later_jobs queries replies)
-
-job_seam : (jobs : List LedgerAct) (act : LedgerAct) (rest : List LedgerAct) → slice_get (jobs ++ act ∷ rest) (length jobs) ≡ Some act
-job_seam [] act rest = refl
-job_seam (x ∷ jobs) act rest = job_seam jobs act rest
-
--- the job behind these jobs
-head_job : (rows : ℕ) (done rest J : List LedgerAct) (q : Query) (act : LedgerAct) (accounts : Accounts) (p at : ℕ) (result : LedgerResult) → accounts ≡ run_all rows no_accounts done → p ≡ length done → J ≡ done ++ act ∷ rest
-    → act_of q ≡ Some act → at ≡ p → result ≡ result_of rows accounts act → RunsAt rows no_accounts J (q, Job at result)
-head_job rows done rest J q act accounts p at result ha hp hJ hq hat hr =
-    let place : at ≡ length done = hat ∙ hp in
-    let here : slice_get J at ≡ Some act = ap (λ l. slice_get l at) hJ ∙ ap (λ n. slice_get (done ++ act ∷ rest) n) place ∙ job_seam done act rest in
-    let now : ledger_at rows no_accounts J at ≡ accounts =
-    ap (λ l. ledger_at rows no_accounts l at) hJ ∙ ap (λ n. ledger_at rows no_accounts (done ++ act ∷ rest) n) place ∙ ap (run_all rows no_accounts) (take-append_seam done (act ∷ rest)) ∙ sym ha in
-    (act, hq, here, hr ∙ ap (λ (a : Accounts). result_of rows a act) (sym now))
-
-stand_jobs : (rows : ℕ) (J : List LedgerAct) (qs : List Query) (rs : List Reply) (done : List LedgerAct) (accounts : Accounts) (p : ℕ) → RanAlone rows accounts p qs rs → accounts ≡ run_all rows no_accounts done → p ≡ length done → J ≡ done ++ later_jobs qs rs
-    → AllByRecursion (RunsAt rows no_accounts J) (zip qs rs)
-stand_jobs rows J [] [] done accounts p r ha hp hJ = tt
-stand_jobs rows J [] (reply ∷ rs) done accounts p r ha hp hJ = absurd r
-stand_jobs rows J (q ∷ qs) [] done accounts p r ha hp hJ = absurd r
-stand_jobs rows J (q ∷ qs) (Placed place said ∷ rs) done accounts p r ha hp hJ = (tt, stand_jobs rows J qs rs done accounts p r ha hp hJ)
-stand_jobs rows J (q ∷ qs) (Busy ∷ rs) done accounts p r ha hp hJ = absurd r
-stand_jobs rows J (q ∷ qs) (Late now ∷ rs) done accounts p r ha hp hJ = absurd r
-stand_jobs rows J (q ∷ qs) (Job at result ∷ rs) done accounts p r ha hp hJ =
-    let act : LedgerAct = r.0 in
-    let cut : J ≡ done ++ act ∷ later_jobs qs rs = hJ ∙ ap (λ o. done ++ with_job o (later_jobs qs rs)) r.1 in (
-      head_job rows done (later_jobs qs rs) J q act accounts p at result ha hp cut r.1 r.2 r.3,
-      stand_jobs rows J qs rs (done ++ act ∷ []) (accounts_of rows accounts act) (p + 1) r.4
-          (ap (λ (a : Accounts). accounts_of rows a act) ha ∙ sym (run_all_push rows no_accounts done act))
-          (let len = length-append done (act ∷ []) in omega (arith, hp, len))
-          (cut ∙ sym (append_assoc done (act ∷ []) (later_jobs qs rs))),
-    )
+-- what was told stays told
+kept_on : (w : LedgerRun → ℕ) (number index : ℕ) (own : List LedgerRun) (qs : List Query) (rs : List Reply) (later : List LedgerRun) → AnsweredAlone number index own qs rs later → total w own ≤ total w later
+kept_on w number index own [] [] later h = omega (arith, ap (total w) h)
+kept_on w number index own [] (r ∷ rs) later h = absurd h
+kept_on w number index own (q ∷ qs) [] later h = absurd h
+kept_on w number index own (q ∷ qs) (Placed place said ∷ rs) later h = kept_on w number (index + 1) own qs rs later h
+kept_on w number index own (q ∷ qs) (Busy ∷ rs) later h = absurd h
+kept_on w number index own (q ∷ qs) (Late now ∷ rs) later h = absurd h
+kept_on w number index own (q ∷ qs) (Job at result ∷ rs) later h =
+    let x : LedgerRun = answer_for number index h.0 at result in omega (arith, kept_on w number (index + 1) (own ++ x ∷ []) qs rs later h.3, push_total w own x)
 
 -- how many entries have the position k
 abbrev positions : ℕ → List Query → List Reply → ℕ
@@ -97,42 +105,230 @@ count_job k q at result all = sum_by-cons (λ (x : Query × Reply). cond (is_job
 count_placed : (k : ℕ) (q : Query) (place : ℕ) (said : Said) (all : List (Query × Reply)) → count_by (is_job_at k) ((q, Placed place said) ∷ all) ≡ count_by (is_job_at k) all
 count_placed k q place said all = let e = sum_by-cons (λ (x : Query × Reply). cond (is_job_at k x) 1 0) (q, Placed place said) all in omega (arith, e)
 
-no_job_before : (k rows : ℕ) (accounts : Accounts) (p : ℕ) (qs : List Query) (rs : List Reply) → RanAlone rows accounts p qs rs → k < p → positions k qs rs ≡ 0
-no_job_before k rows accounts p [] [] r lt = refl
-no_job_before k rows accounts p [] (reply ∷ rs) r lt = absurd r
-no_job_before k rows accounts p (q ∷ qs) [] r lt = absurd r
-no_job_before k rows accounts p (q ∷ qs) (Placed place said ∷ rs) r lt = count_placed k q place said (zip qs rs) ∙ no_job_before k rows accounts p qs rs r lt
-no_job_before k rows accounts p (q ∷ qs) (Busy ∷ rs) r lt = absurd r
-no_job_before k rows accounts p (q ∷ qs) (Late now ∷ rs) r lt = absurd r
-no_job_before k rows accounts p (q ∷ qs) (Job at result ∷ rs) r lt =
-    let rest = no_job_before k rows (accounts_of rows accounts r.0) (p + 1) qs rs r.4 (omega (arith, lt)) in
-    let same = r.2 in
-    let miss : (at == k) ≡ false = grind (arith, same, lt) in
-    count_job k q at result (zip qs rs) ∙ ap (λ (c : Bool). cond {A = ℕ} c 1 0 + positions k qs rs) miss ∙ (omega (arith, rest))
+-- the positions in the own list are those of the replies
+told_positions : (k number index : ℕ) (own : List LedgerRun) (qs : List Query) (rs : List Reply) (later : List LedgerRun) → AnsweredAlone number index own qs rs later → places k later ≡ places k own + positions k qs rs
+told_positions k number index own [] [] later h = omega (arith, ap (total (λ z. counts_at k z.1)) h)
+told_positions k number index own [] (r ∷ rs) later h = absurd h
+told_positions k number index own (q ∷ qs) [] later h = absurd h
+told_positions k number index own (q ∷ qs) (Placed place said ∷ rs) later h = omega (arith, told_positions k number (index + 1) own qs rs later h, count_placed k q place said (zip qs rs))
+told_positions k number index own (q ∷ qs) (Busy ∷ rs) later h = absurd h
+told_positions k number index own (q ∷ qs) (Late now ∷ rs) later h = absurd h
+told_positions k number index own (q ∷ qs) (Job at result ∷ rs) later h =
+    let x : LedgerRun = answer_for number index h.0 at result in
+    omega (arith, told_positions k number (index + 1) (own ++ x ∷ []) qs rs later h.3, push_total (λ z. counts_at k z.1) own x, count_job k q at result (zip qs rs))
 
-once_position : (k p rest : ℕ) → p ≤ k → (k < p + 1 → rest ≡ 0) → (p < k → rest ≡ 1) → cond (p == k) 1 0 + rest ≡ 1
-once_position k p rest low none one = elim (eq-or-lt_of_le low) [
-  | inl same ↦ (let hit : (p == k) ≡ true = grind (arith, same) in let z = none (omega (arith, same)) in rw hit (omega (arith, z)))
-  | inr less ↦ (let miss : (p == k) ≡ false = grind (arith, less) in let o = one less in rw miss (omega (arith, o)))
-]
+-- acts and results as numbers
+abbrev act_code : LedgerAct → ℕ × ℕ × ℕ
+act_code (Give key n) = (0, key, n)
+act_code (Take key n) = (1, key, n)
+act_code Audit = (2, 0, 0)
 
-once_jobs : (k rows : ℕ) (qs : List Query) (rs : List Reply) (accounts : Accounts) (p : ℕ) → RanAlone rows accounts p qs rs → p ≤ k → k < p + length (later_jobs qs rs) → positions k qs rs ≡ 1
-once_jobs k rows [] [] accounts p r low high = absurd (omega (arith, low, high))
-once_jobs k rows [] (reply ∷ rs) accounts p r low high = absurd r
-once_jobs k rows (q ∷ qs) [] accounts p r low high = absurd r
-once_jobs k rows (q ∷ qs) (Placed place said ∷ rs) accounts p r low high = count_placed k q place said (zip qs rs) ∙ once_jobs k rows qs rs accounts p r low high
-once_jobs k rows (q ∷ qs) (Busy ∷ rs) accounts p r low high = absurd r
-once_jobs k rows (q ∷ qs) (Late now ∷ rs) accounts p r low high = absurd r
-once_jobs k rows (q ∷ qs) (Job at result ∷ rs) accounts p r low high =
-    let act : LedgerAct = r.0 in
-    let len : length (with_job (act_of q) (later_jobs qs rs)) ≡ length (act ∷ later_jobs qs rs) = ap (λ o. length (with_job o (later_jobs qs rs))) r.1 in
-    let before : k < p + 1 → positions k qs rs ≡ 0 = λ h. no_job_before k rows (accounts_of rows accounts act) (p + 1) qs rs r.4 h in
-    let behind : p < k → positions k qs rs ≡ 1 = λ h. once_jobs k rows qs rs (accounts_of rows accounts act) (p + 1) r.4 (omega (arith, h)) (omega (arith, high, len)) in
-    count_job k q at result (zip qs rs) ∙ ap (λ x. cond {A = ℕ} (x == k) 1 0 + positions k qs rs) r.2 ∙ once_position k p (positions k qs rs) low before behind
+abbrev act_with : ℕ → ℕ → ℕ → LedgerAct
+act_with tag key n = cond (tag == 0) (Give key n) (cond (tag == 1) (Take key n) Audit)
 
-pub ledger_alone : (rows : ℕ) (qs : List Query) (rs : List Reply) → RanAlone rows no_accounts 0 qs rs → IsLegalLedger rows no_accounts (zip qs rs)
-ledger_alone rows qs rs r = record {
-  jobs = later_jobs qs rs;
-  stand = stand_jobs rows (later_jobs qs rs) qs rs [] no_accounts 0 r refl refl refl;
-  once = λ k lt. once_jobs k rows qs rs no_accounts 0 r (omega arith) (omega (arith, lt));
-}
+act_again : (act : LedgerAct) → act_with (act_code act).0 (act_code act).1 (act_code act).2 ≡ act
+act_again (Give key n) = refl
+act_again (Take key n) = refl
+act_again Audit = refl
+
+abbrev result_code : LedgerResult → ℕ × ℕ
+result_code (Ok (Now n)) = (0, n)
+result_code (Ok (Sum n)) = (1, n)
+result_code (Err Over) = (2, 0)
+result_code (Err Full) = (3, 0)
+result_code (Err (Short n)) = (4, n)
+
+abbrev result_with : ℕ → ℕ → LedgerResult
+result_with tag n = cond (tag == 0) (Ok (Now n)) (cond (tag == 1) (Ok (Sum n)) (cond (tag == 2) (Err Over) (cond (tag == 3) (Err Full) (Err (Short n)))))
+
+result_again : (result : LedgerResult) → result_with (result_code result).0 (result_code result).1 ≡ result
+result_again (Ok (Now n)) = refl
+result_again (Ok (Sum n)) = refl
+result_again (Err Over) = refl
+result_again (Err Full) = refl
+result_again (Err (Short n)) = refl
+
+abbrev code : ℕ → LedgerAct → LedgerResult → List ℕ
+code at act result = at ∷ (act_code act).0 ∷ (act_code act).1 ∷ (act_code act).2 ∷ (result_code result).0 ∷ (result_code result).1 ∷ []
+
+abbrev all_equal : List ℕ → List ℕ → Bool
+all_equal [] [] = true
+all_equal [] (y ∷ ys) = false
+all_equal (x ∷ xs) [] = false
+all_equal (x ∷ xs) (y ∷ ys) = cond (x == y) (all_equal xs ys) false
+
+equal_rest : (b c : Bool) → cond b c false ≡ true → (b ≡ true) × (c ≡ true)
+equal_rest true c e = (refl, e)
+equal_rest false c e = absurd (let bad : false ≡ true = e in cc)
+
+all_equal_is : (xs ys : List ℕ) → all_equal xs ys ≡ true → xs ≡ ys
+all_equal_is [] [] e = refl
+all_equal_is [] (y ∷ ys) e = absurd (let bad : false ≡ true = e in cc)
+all_equal_is (x ∷ xs) [] e = absurd (let bad : false ≡ true = e in cc)
+all_equal_is (x ∷ xs) (y ∷ ys) e =
+    let both = equal_rest (x == y) (all_equal xs ys) e in let head : x ≡ y = eqb-true x y both.0 in let tail : xs ≡ ys = all_equal_is xs ys both.1 in ap (λ (z : ℕ). z ∷ xs) head ∙ ap (λ l. y ∷ l) tail
+
+equal_self : (xs : List ℕ) → all_equal xs xs ≡ true
+equal_self [] = refl
+equal_self (x ∷ xs) = ap (λ (b : Bool). cond b (all_equal xs xs) false) (eq-eqb x x refl) ∙ equal_self xs
+
+-- whether this is a job with this act, and its answer at this position has this result
+abbrev tells : ℕ → LedgerAct → LedgerResult → LedgerParcel → LedgerParcel → Bool
+tells at act result (parcel.Posted job) (parcel.Answered a) = all_equal (code a.at job.act a.result) (code at act result)
+tells at act result x y = false
+
+abbrev is_told : ℕ → LedgerAct → LedgerResult → LedgerRun → Bool
+is_told at act result x = tells at act result x.0 x.1
+
+told_is : (at : ℕ) (act : LedgerAct) (result : LedgerResult) (job : LedgerJob) (answer : JobAnswer LedgerTold LedgerTrouble) → is_told at act result (answer_to job answer) ≡ true → (answer.at ≡ at) × (job.act ≡ act) × (answer.result ≡ result)
+told_is at act result job answer e =
+    let same : code answer.at job.act answer.result ≡ code at act result = all_equal_is (code answer.at job.act answer.result) (code at act result) e in (
+      ap (λ (l : List ℕ). get_or l 0 0) same,
+      sym (act_again job.act) ∙ ap (λ (l : List ℕ). act_with (get_or l 1 0) (get_or l 2 0) (get_or l 3 0)) same ∙ act_again act,
+      sym (result_again answer.result) ∙ ap (λ (l : List ℕ). result_with (get_or l 4 0) (get_or l 5 0)) same ∙ result_again result,
+    )
+
+own_told : (number index : ℕ) (act : LedgerAct) (at : ℕ) (result : LedgerResult) → is_told at act result (answer_for number index act at result) ≡ true
+own_told number index act at result = equal_self (code at act result)
+
+-- the acts of a history of jobs
+abbrev act_in : LedgerParcel → LedgerAct
+act_in (parcel.Value kept) = Audit
+act_in (parcel.Posted job) = job.act
+act_in (parcel.Answered a) = Audit
+
+abbrev History : Type 0
+History = List LedgerRun
+
+abbrev acts : History → List LedgerAct
+acts [] = []
+acts (x ∷ xs) = act_in x.0 ∷ acts xs
+
+acts_long : (h : History) → length (acts h) ≡ length h
+acts_long [] = refl
+acts_long (x ∷ xs) = ap suc (acts_long xs)
+
+-- the accounts behind one entry more
+accounts_push : (rows : ℕ) (entries : List LedgerEntry) (e : LedgerEntry) → made_by rows (entries ++ e ∷ []) ≡ accounts_of rows (made_by rows entries) e.act
+accounts_push rows entries e =
+    let act : LedgerEntry → LedgerAct = λ x. x.act in
+    ap (λ (l : List LedgerAct). run_all rows no_accounts l) (map-append act entries (e ∷ [])) ∙ run_all_push rows no_accounts (map act entries) e.act
+
+-- where one of the history's jobs with its answer is such a one: which job it is, at which place of the history, and that it has the result of its act on the accounts there
+abbrev Found : (LedgerRun → Bool) → History → LedgerView → ℕ → Type 0
+Found test h ledger first =
+    (i : ℕ) × (job : LedgerJob) × (answer : JobAnswer LedgerTold LedgerTrouble) × (test (answer_to job answer) ≡ true) × (answer.at ≡ first + i)
+    × (slice_get (acts h) i ≡ Some job.act) × (answer.result ≡ result_of ledger.rows (run_all ledger.rows (accounts_in ledger) (take i (acts h))) job.act)
+
+abbrev hits : (LedgerRun → Bool) → LedgerRun → ℕ
+hits test x = cond (test x) 1 0
+
+-- the answer of the first job
+found_here : (test : LedgerRun → Bool) (x : LedgerRun) (xs : History) (v u : LedgerParcel) (k : Kept LedgerView) → v ≡ parcel.Value k → Related rooms Means v x.0 x.1 u → test x ≡ true → Found test (x ∷ xs) k.value k.ran
+found_here test x xs v u k is t hit =
+    let same_k : t.0 ≡ k = value-injective {J = LedgerJob} {O = LedgerTold} {X = LedgerTrouble} t.0 k (sym t.4 ∙ is) in
+    let act : act_in x.0 ≡ t.2.act = ap act_in t.6 in
+    let at : t.3.at ≡ k.ran = t.8 ∙ ap (λ (z : Kept LedgerView). z.ran) same_k in
+    let whole : x ≡ answer_to t.2 t.3 = λ i. (t.6 i, t.7 i) in
+    (0, t.2, t.3, ap test (sym whole) ∙ hit, omega (arith, at), ap Some act, t.10.0 ∙ ap (λ (z : Kept LedgerView). result_of z.value.rows (accounts_in z.value) t.2.act) same_k)
+
+-- an answer of the later jobs
+found_later : (test : LedgerRun → Bool) (x : LedgerRun) (xs : History) (v u : LedgerParcel) (k : Kept LedgerView) → v ≡ parcel.Value k → (t : Related rooms Means v x.0 x.1 u) → Found test xs t.1.value t.1.ran → Found test (x ∷ xs) k.value k.ran
+found_later test x xs v u k is t f =
+    let same_k : t.0 ≡ k = value-injective {J = LedgerJob} {O = LedgerTold} {X = LedgerTrouble} t.0 k (sym t.4 ∙ is) in
+    let act : act_in x.0 ≡ t.2.act = ap act_in t.6 in
+    let ran : t.1.ran ≡ k.ran + 1 = t.9 ∙ ap (λ (z : Kept LedgerView). z.ran + 1) same_k in
+    let rows : t.1.value.rows ≡ k.value.rows = ap (λ (z : LedgerView). z.rows) t.10.1 ∙ ap (λ (z : Kept LedgerView). z.value.rows) same_k in
+    let left : accounts_in t.1.value ≡ accounts_of k.value.rows (accounts_in k.value) (act_in x.0) =
+    ap accounts_in t.10.1 ∙ accounts_push t.0.value.rows t.0.value.entries (entry_of t.2 t.3.result)
+    ∙ ap (λ (z : Kept LedgerView). accounts_of z.value.rows (accounts_in z.value) t.2.act) same_k ∙ ap (accounts_of k.value.rows (accounts_in k.value)) (sym act) in (
+      suc f.0,
+      f.1,
+      f.2,
+      f.3,
+      omega (arith, f.4, ran),
+      f.5,
+      f.6
+          ∙ ap (λ (n : ℕ). result_of n (run_all n (accounts_in t.1.value) (take f.0 (acts xs))) f.1.act) rows
+          ∙ ap (λ (a : Accounts). result_of k.value.rows (run_all k.value.rows a (take f.0 (acts xs))) f.1.act) left,
+    )
+
+found_first : (test : LedgerRun → Bool) (x : LedgerRun) (xs : History) (v u : LedgerParcel) (k : Kept LedgerView) (b : Bool) → v ≡ parcel.Value k → (t : Related rooms Means v x.0 x.1 u) → test x ≡ b
+    → 1 ≤ total (hits test) (x ∷ xs) → (1 ≤ total (hits test) xs → Found test xs t.1.value t.1.ran) → Found test (x ∷ xs) k.value k.ran
+found_first test x xs v u k true is t hit some rest = found_here test x xs v u k is t hit
+found_first test x xs v u k false is t miss some rest =
+    let none : hits test x ≡ 0 = ap {B = ℕ} (λ (b : Bool). cond b 1 0) miss in found_later test x xs v u k is t (rest (omega (arith, some, none)))
+
+find : (test : LedgerRun → Bool) (h : History) (v w : LedgerParcel) (k : Kept LedgerView) → v ≡ parcel.Value k → Runs (Related rooms Means) v h w → 1 ≤ total (hits test) h → Found test h k.value k.ran
+find test [] v w k is runs some = absurd (omega (arith, some))
+find test (x ∷ xs) v w k is runs some = found_first test x xs v runs.0 k (test x) is runs.1 refl some (find test xs runs.0 w runs.1.1 runs.1.5 runs.2)
+
+-- a history that led from an empty ledger with so many rows, and has exactly these answers
+pub record Led (rows : ℕ) (h : History) (later : List LedgerRun) : Type 0 where
+  pub start : LedgerParcel
+  pub end : LedgerParcel
+  pub kept : Kept LedgerView
+  pub is : start ≡ parcel.Value kept
+  pub none_ran : kept.ran ≡ 0
+  pub rows_are : kept.value.rows ≡ rows
+  pub empty : accounts_in kept.value ≡ no_accounts
+  pub runs : Runs (Related rooms Means) start h end
+  pub all : (w : LedgerRun → ℕ) → total w later ≡ total w h
+
+-- each job's reply is that of the history's job at its position
+reply_runs : (rows : ℕ) (h : History) (later : List LedgerRun) (number index : ℕ) (q : Query) (act : LedgerAct) (at : ℕ) (result : LedgerResult)
+    → Led rows h later → act_of q ≡ Some act → ((w : LedgerRun → ℕ) → w (answer_for number index act at result) ≤ total w later) → RunsAt rows no_accounts (acts h) (q, Job at result)
+reply_runs rows h later number index q act at result l asks told =
+    let test : LedgerRun → Bool = is_told at act result in
+    let hit : hits test (answer_for number index act at result) ≡ 1 = ap {B = ℕ} (λ (b : Bool). cond b 1 0) (own_told number index act at result) in
+    let f : Found test h l.kept.value l.kept.ran = find test h l.start l.end l.kept l.is l.runs (omega (arith, hit, told (hits test), l.all (hits test))) in
+    let same = told_is at act result f.1 f.2 f.3 in
+    let place : f.0 ≡ at = omega (arith, f.4, l.none_ran, same.0) in (
+      act,
+      asks,
+      ap (slice_get (acts h)) (sym place) ∙ f.5 ∙ ap Some same.1,
+      sym same.2 ∙ f.6
+          ∙ ap (λ (n : ℕ). result_of n (run_all n (accounts_in l.kept.value) (take f.0 (acts h))) f.1.act) l.rows_are
+          ∙ ap (λ (a : Accounts). result_of rows (run_all rows a (take f.0 (acts h))) f.1.act) l.empty
+          ∙ ap (λ (n : ℕ). result_of rows (run_all rows no_accounts (take n (acts h))) f.1.act) place
+          ∙ ap (result_of rows (run_all rows no_accounts (take at (acts h)))) same.1,
+    )
+
+stand_jobs : (rows : ℕ) (h : History) (number index : ℕ) (own : List LedgerRun) (qs : List Query) (rs : List Reply) (later : List LedgerRun) → Led rows h later → AnsweredAlone number index own qs rs later
+    → AllByRecursion (RunsAt rows no_accounts (acts h)) (zip qs rs)
+stand_jobs rows h number index own [] [] later l told = tt
+stand_jobs rows h number index own [] (r ∷ rs) later l told = absurd told
+stand_jobs rows h number index own (q ∷ qs) [] later l told = absurd told
+stand_jobs rows h number index own (q ∷ qs) (Placed place said ∷ rs) later l told = (tt, stand_jobs rows h number (index + 1) own qs rs later l told)
+stand_jobs rows h number index own (q ∷ qs) (Busy ∷ rs) later l told = absurd told
+stand_jobs rows h number index own (q ∷ qs) (Late now ∷ rs) later l told = absurd told
+stand_jobs rows h number index own (q ∷ qs) (Job at result ∷ rs) later l told =
+    let x : LedgerRun = answer_for number index told.0 at result in (
+      reply_runs rows h later number index q told.0 at result l told.1 (λ w. omega (arith, push_total w own x, kept_on w number (index + 1) (own ++ x ∷ []) qs rs later told.3)),
+      stand_jobs rows h number (index + 1) (own ++ x ∷ []) qs rs later l told.3,
+    )
+
+-- where the lock was opened with an empty ledger, and closed by the pass that asked all queries, their replies are one history of the ledger
+pub ledger_alone : (rows room number : ℕ) (o : Opening LedgerParcel) (qs : List Query) (rs : List Reply) (own : List LedgerRun) (out : Option (Kept LedgerView))
+    → o.first.value ≡ parcel.Value record { value = record { rows = rows; room = room; entries = [] }; ran = 0 } → AnsweredAlone number 0 [] qs rs own → Ends rooms Means o own out → IsLegalLedger rows no_accounts (zip qs rs)
+ledger_alone rows room number o qs rs own out first told e =
+    let h : History = e.1 in let k : Kept LedgerView = record { value = record { rows = rows; room = room; entries = [] }; ran = 0 } in
+    let l : Led rows h own = record { start = o.first.value; end = parcel.Value e.0; kept = k; is = first; none_ran = refl; rows_are = refl; empty = refl; runs = e.3; all = e.4 } in
+    let long : e.0.ran ≡ 0 + length h = history-length rooms Means h o.first.value (parcel.Value e.0) k e.0 first refl e.3 in
+    record {
+      jobs = acts h;
+      stand = stand_jobs rows h number 0 [] qs rs own l told;
+      once = λ p low. (
+          let here : nat_lt p e.0.ran ≡ true = lt-ltb p e.0.ran (omega (arith, low, long, acts_long h)) in
+          let one : places p own ≡ 1 = e.5 p ∙ ap {B = ℕ} (λ (b : Bool). cond b 1 0) here in
+          omega (arith, one, told_positions p number 0 [] qs rs own told)
+          );
+    }
+
+-- a pass with the same numbers covers the same ones
+pub same_covers : (n : ℕ) (v w : ChainView LedgerParcel) → SameNumbers v w → covers n w ≡ covers n v
+same_covers n v w s =
+    ap (λ (b : Bool). cond b 0 (within n (w.number, w.spare) + total (within n) w.past)) s.gone
+    ∙ ap (λ (k : ℕ). cond v.gone 0 (within n (k, w.spare) + total (within n) w.past)) s.number
+    ∙ ap (λ (k : ℕ). cond v.gone 0 (within n (v.number, k) + total (within n) w.past)) s.spare
+    ∙ ap (λ (l : List (ℕ × ℕ)). cond v.gone 0 (within n (v.number, v.spare) + total (within n) l)) s.past

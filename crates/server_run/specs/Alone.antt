@@ -1,6 +1,5 @@
 -- What one caller is told where nobody else asks.
-use Rattle.std.specs.Prelude.{◌≡◌, ℕ, ◌+◌, ◌-◌, ◌≤◌, List, [], ◌∷◌, ◌++◌, length, count_by, is_some, Some, None, if◌then◌else◌}
-use Rattle.std.specs.declared.option.Option.{Option}
+use Rattle.std.specs.Prelude.{◌≡◌, ℕ, ◌+◌, ◌≤◌, List, [], ◌∷◌, ◌++◌, count_by, is_some, Some, if◌then◌else◌}
 use Rattle.std.specs.List.{AllZip}
 use Rattle.query_rules.specs.declared.query.Query.{Query}
 use Rattle.query_rules.specs.declared.query.Said.{Said}
@@ -8,15 +7,14 @@ use Rattle.query_rules.specs.declared.query.LedgerAct.{LedgerAct}
 use Rattle.query_rules.specs.declared.query.Reply.{Reply}
 use Rattle.query_rules.specs.declared.query.Reply.TheVariants.{Placed, Busy, Late, Job}
 use Rattle.query_rules.specs.Maps.{is_write, may_write}
-use Rattle.query_rules.specs.Ledger.{Accounts, LedgerResult, act_of, result_of, accounts_of}
+use Rattle.query_rules.specs.Ledger.{act_of}
 use Rattle.query_rules.specs.History.{place_of, IsKindFor}
-use Rattle.query_log.specs.Ledgers.{LedgerView, accounts_in, entry_of}
-use Rattle.query_log.specs.declared.job.LedgerEntry.{LedgerEntry}
+use Rattle.combine_job.specs.Parcels.{places}
 use Rattle.map_cargo.specs.declared.entry.Part.{Part}
 use Rattle.map_cargo.specs.declared.entry.Entry.{Entry}
 use Rattle.map_cargo.specs.declared.entry.Told.{Told}
 use Rattle.map_cargo.specs.declared.entry.Told.TheVariants.{Wrote, Read}
-use Rattle.query_cells.specs.Asked.{entry_for}
+use Rattle.query_cells.specs.Asked.{entry_for, answer_for, LedgerRun}
 
 -- how many of these ask the ledger
 abbrev pub jobs_of : List Query → ℕ
@@ -45,38 +43,19 @@ ToldAlone number index seen told (q ∷ queries) (Busy ∷ replies) later = ⊥
 ToldAlone number index seen told (q ∷ queries) (Late now ∷ replies) later = ⊥
 ToldAlone number index seen told (q ∷ queries) (Job at result ∷ replies) later = ToldAlone number (index + 1) seen told queries replies later
 
--- each job has the result of its act on these accounts, after p jobs, and leaves the accounts for the next; the others are queries of the maps
-abbrev pub RanAlone : ℕ → Accounts → ℕ → List Query → List Reply → Type 0
-RanAlone rows accounts p [] [] = Unit {0}
-RanAlone rows accounts p [] (reply ∷ replies) = ⊥
-RanAlone rows accounts p (q ∷ queries) [] = ⊥
-RanAlone rows accounts p (q ∷ queries) (Placed place said ∷ replies) = RanAlone rows accounts p queries replies
-RanAlone rows accounts p (q ∷ queries) (Busy ∷ replies) = ⊥
-RanAlone rows accounts p (q ∷ queries) (Late now ∷ replies) = ⊥
-RanAlone rows accounts p (q ∷ queries) (Job at result ∷ replies) =
-    (act : LedgerAct) × (act_of q ≡ Some act) × (at ≡ p) × (result ≡ result_of rows accounts act) × RanAlone rows (accounts_of rows accounts act) (p + 1) queries replies
+-- Each job's answer, with the job under its caller's number and its index, stands behind the others, from `own` on until `later`, at a position above all in front of it; the rest are replies of the maps
+abbrev pub AnsweredAlone : ℕ → ℕ → List LedgerRun → List Query → List Reply → List LedgerRun → Type 0
+AnsweredAlone number index own [] [] later = later ≡ own
+AnsweredAlone number index own [] (reply ∷ replies) later = ⊥
+AnsweredAlone number index own (q ∷ queries) [] later = ⊥
+AnsweredAlone number index own (q ∷ queries) (Placed place said ∷ replies) later = AnsweredAlone number (index + 1) own queries replies later
+AnsweredAlone number index own (q ∷ queries) (Busy ∷ replies) later = ⊥
+AnsweredAlone number index own (q ∷ queries) (Late now ∷ replies) later = ⊥
+AnsweredAlone number index own (q ∷ queries) (Job at result ∷ replies) later =
+    (act : LedgerAct) × (act_of q ≡ Some act) × ((p : ℕ) → at ≤ p → places p own ≡ 0) × AnsweredAlone number (index + 1) (own ++ answer_for number index act at result ∷ []) queries replies later
 
--- a job's entry in front of later ones
-abbrev pub with_entry : ℕ → ℕ → Option LedgerAct → LedgerResult → List LedgerEntry → List LedgerEntry
-with_entry number index (Some act) result later = entry_of (record { caller = number; index = index; act = act }) result ∷ later
-with_entry number index None result later = later
-
--- what the ledger keeps of these replies: an entry for each job, in their order, under its caller's number and its index, with its act and its result
-abbrev pub entries_told : ℕ → ℕ → List Query → List Reply → List LedgerEntry
-entries_told number index [] replies = []
-entries_told number index (q ∷ queries) [] = []
-entries_told number index (q ∷ queries) (Placed place said ∷ replies) = entries_told number (index + 1) queries replies
-entries_told number index (q ∷ queries) (Busy ∷ replies) = entries_told number (index + 1) queries replies
-entries_told number index (q ∷ queries) (Late now ∷ replies) = entries_told number (index + 1) queries replies
-entries_told number index (q ∷ queries) (Job at result ∷ replies) = with_entry number index (act_of q) result (entries_told number (index + 1) queries replies)
-
--- a ledger with these entries more, each of which took its room
-abbrev pub with_entries : LedgerView → List LedgerEntry → LedgerView
-with_entries ledger entries = record { rows = ledger.rows; room = ledger.room - length entries; entries = ledger.entries ++ entries }
-
--- Replies to these queries, the first of which has this index, each of its query's kind, took what a pass knows from p to r, and the ledger to `later`: the placed ones are told there in their order, and the jobs ran on this ledger, which has their entries more
-pub record IsAlone (number index : ℕ) (p : Part) (ledger : LedgerView) (queries : List Query) (replies : List Reply) (r : Part) (later : LedgerView) : Type 0 where
+-- Replies to these queries, the first of which has this index, each of its query's kind, took what a pass of the hall knows from p to r, and what the pass of the ledger's lock lists from `own` to `later`: the placed replies and the jobs are told there in their order
+pub record IsAlone (number index : ℕ) (p : Part) (own : List LedgerRun) (queries : List Query) (replies : List Reply) (r : Part) (later : List LedgerRun) : Type 0 where
   pub kinds : AllZip IsKindFor queries replies
   pub told : ToldAlone number index p.seen p.told queries replies r.told
-  pub ran : RanAlone ledger.rows (accounts_in ledger) (length ledger.entries) queries replies
-  pub kept : later ≡ with_entries ledger (entries_told number index queries replies)
+  pub answered : AnsweredAlone number index own queries replies later

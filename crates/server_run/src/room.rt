@@ -3,12 +3,16 @@ ghost use Rattle.std.specs.Prelude.{◌≡◌, ◌≤◌, ◌<◌, [], length, I
 ghost use Rattle.command_line.specs.Form.{IsWithinLimits};
 ghost use Rattle.hall.specs.Passes.{view, IsPassOf};
 ghost use Rattle.server_run.specs.Alone.{writes_of, jobs_of};
-ghost use Rattle.server_run.specs.Rooms.{IsHallFor, IsFirst};
+ghost use Rattle.dist_mutex.specs.Passes.{IsAtRest, IsDistPassOf, dist_view};
+ghost use Rattle.server_run.specs.Rooms.{IsHallFor, IsFirst, IsLockFor, IsFirstOf};
 
 use command_line::Options;
+use dist_mutex::mutex::DistMutex;
+use dist_mutex::pass::DistPass;
 use hall::{Hall, Pass};
 use map_cargo::MapCargo;
 use ql_base::NoMemory;
+use query_log::{Ledger, LedgerJob};
 use query_text::Query;
 use std::alloc::Global;
 
@@ -43,6 +47,25 @@ pub fn open_hall(
         writes,
         cargo,
     ) {
+        Ok(made) => Ok(made),
+        Err(_) => Err(NoMemory),
+    }
+}
+
+/// An empty ledger behind a lock of its own for one caller of these queries, as the options ask: it
+/// has room for each query that asks it. The lock's pass is its only one, and has all the quota.
+pub fn open_ledger(
+    alloc: Global,
+    queries: &[Query],
+    options: &Options,
+) -> Result<(DistMutex<Ledger, LedgerJob>, DistPass<Ledger, LedgerJob>), NoMemory>
+    ensures lock { IfOk result (λ t. IsLockFor queries.now options.now t.0) }
+    ensures pass { IfOk result (λ t. IsDistPassOf t.0 t.1 × IsAtRest t.1) }
+    ensures first { IfOk result (λ t. IsFirstOf (jobs_of queries.now) (dist_view t.1)) }
+{
+    let jobs = count_jobs(queries);
+    let ledger = Ledger::make(alloc, options.rows, jobs)?;
+    match DistMutex::make(alloc, 1, jobs, options.combine, ledger) {
         Ok(made) => Ok(made),
         Err(_) => Err(NoMemory),
     }

@@ -7,11 +7,10 @@ ghost use Rattle.command_line.specs.Form.{IsWithinLimits};
 use crate::caller::Caller;
 use crate::order::order_of;
 use crate::reserved::push_reserved;
-use crate::room::{count_jobs, open_hall};
+use crate::room::{open_hall, open_ledger};
 use command_line::Options;
 use map_cargo::close;
 use ql_base::{Clocks, Gate, NoMemory};
-use query_log::Ledger;
 use query_text::{Outcome, Script, Spot};
 use std::alloc::Global;
 use std::sync::Wait;
@@ -26,8 +25,8 @@ pub struct Ran {
 /// Asks the queries of the script's caller in their order, and calls the gate around each.
 ///
 /// All memory is taken before the first query, so `NoMemory` comes only then: the hall with a log
-/// row for each query that may write, the ledger with room for each job, and the lists of replies
-/// and of spots. The call holds what it promises if it returns.
+/// row for each query that may write, the lists of replies and of spots, and the ledger with room
+/// for each job behind its lock. The call holds what it promises if it returns.
 pub fn run_script<R: Wait, T: Clocks, G: Gate>(
     rt: &R,
     alloc: Global,
@@ -48,19 +47,25 @@ pub fn run_script<R: Wait, T: Clocks, G: Gate>(
     }
     let queries = callers.queries(0);
     let (hall, pass) = open_hall(alloc, script.cells(), queries, options)?;
-    let ledger = Ledger::make(alloc, options.rows, count_jobs(queries))?;
     let replies = Vec::with_capacity(alloc, queries.len())?;
     let spots = Vec::with_capacity(alloc, queries.len())?;
     let mut lists = Vec::with_capacity(alloc, 1)?;
+    let (dist, dist_pass) = open_ledger(alloc, queries, options)?;
     let mut caller = Caller {
         pass,
-        ledger,
+        dist_pass,
         clock: clocks.clock(0),
         replies,
     };
-    caller.ask_all(rt, &hall, gate, queries);
-    let Caller { pass, replies, .. } = caller;
+    caller.ask_all(rt, &hall, &dist, gate, queries);
+    let Caller {
+        pass,
+        dist_pass,
+        clock: _,
+        replies,
+    } = caller;
     close(hall, pass);
+    let (_kept, _retired) = dist.close(dist_pass);
     push_reserved(&mut lists, replies);
     let outcome = Outcome::of(lists);
     let order = order_of(spots, &outcome);

@@ -1,5 +1,5 @@
 -- What the calls of the shared lock leave to their pass.
-use Rattle.std.specs.Prelude.{◌≡◌, ◌≢◌, ℕ, ◌+◌, ◌≤◌, ◌⊎◌, length, true, false, Some}
+use Rattle.std.specs.Prelude.{◌≡◌, ◌≢◌, ℕ, ◌⊎◌, Bool, true, false, Some}
 use Rattle.lock_model.specs.declared.model.Act.TheVariants as act
 use Rattle.state_word.specs.Words.{units_of, retract_of}
 use Rattle.hall.specs.declared.cargo.CargoRule.{Ghosts}
@@ -8,19 +8,13 @@ use Rattle.hall.specs.declared.guards.TryFault.TheVariants.{Busy, Raced}
 use Rattle.hall.specs.declared.view.View.{View}
 use Rattle.hall.specs.declared.view.Kind.TheVariants as kinds
 use Rattle.hall.specs.declared.view.Standing.TheVariants.{Away}
+pub use Rattle.hall.specs.Calls.{ElsewhereSame, MadeAtMost}
 use Rattle.hall.specs.Moves.{Moment}
 use Rattle.hall.specs.Plays.{conflicts_for_shared, conflicts_for_announcing, Enters, Announces, Holding}
 use Rattle.hall.specs.Reasons.{WasNotAlone, MetAWriter}
-use Rattle.hall.specs.Views.{standing, after_look, after_step}
-
-module _ {P : Type 0} where
-  -- at each other lock the standing is as it was
-  abbrev pub ElsewhereSame : View P → View P → ℕ → Type 0
-  ElsewhereSame v w lock = (k : ℕ) → k ≢ lock → standing w k ≡ standing v k
-
-  -- at most so many steps were made
-  abbrev pub MadeAtMost : View P → View P → ℕ → Type 0
-  MadeAtMost v w n = length w.steps ≤ length v.steps + n
+use Rattle.hall.specs.Upgrading.{HoldingUp}
+use Rattle.hall.specs.Views.{after_look, after_step}
+use Rattle.apply_deferred.specs.Sweeping.{Sweeps}
 
 module _ {C P : Type 0} (g : Ghosts C P) where
   -- one load found a word that doesn't conflict, and one exchange from it entered
@@ -41,15 +35,21 @@ module _ {C P : Type 0} (g : Ghosts C P) where
   RefusesAnnouncing v lock w (Busy word) = (conflicts_for_announcing word ≡ true) × (w ≡ after_look v kinds.Load lock word) × MetAWriter g w lock
   RefusesAnnouncing v lock w (Raced expected found) = (expected ≢ found) × (w ≡ after_look (after_look v kinds.Load lock expected) kinds.Announce lock found) × WasNotAlone g w lock
 
-  -- the writer was announced and then took the lock
+  -- the announced writer took the lock: from outside it gained its mode, and from upgrade it raised it
+  abbrev pub Finishes : Bool → View P → ℕ → View P → Type 0
+  Finishes false v lock w = Holding g v lock 4 w
+  Finishes true v lock w = HoldingUp g v lock 6 w
+
+  -- the writer was announced, swept, and then took the lock
   abbrev pub TakesExclusive : View P → ℕ → View P → Type 0
-  TakesExclusive v lock w = (u : View P) × AnnouncesWriter v lock u × Holding g u lock 4 w
+  TakesExclusive v lock w = (u : View P) × AnnouncesWriter v lock u × (z : View P) × (taken : ℕ) × Sweeps g lock v.shape.slots taken u z × Holding g z lock 4 w
 
-  -- a try to take the lock was refused before the writer was announced, or it was announced, found readers, and took its announcement back
+  -- the writer was announced and swept, found readers, and took its announcement back
   abbrev pub FoundReaders : View P → ℕ → View P → ℕ → Type 0
-  FoundReaders v lock w word = (u : View P) × AnnouncesWriter v lock u × (units_of word ≢ 0) × WasNotAlone g (after_look u kinds.Hold lock word) lock
-      × ((found : ℕ) × (w ≡ after_step (after_look u kinds.Hold lock word) kinds.Retract lock found true Away u.part) × Moment g (after_look u kinds.Hold lock word) w lock found (retract_of found) (Some act.Retract))
+  FoundReaders v lock w word = (u : View P) × AnnouncesWriter v lock u × (z : View P) × (taken : ℕ) × Sweeps g lock v.shape.slots taken u z × (units_of word ≢ 0) × WasNotAlone g (after_look z kinds.Hold lock word) lock
+      × ((found : ℕ) × (w ≡ after_step (after_look z kinds.Hold lock word) kinds.Retract lock found true Away z.part) × Moment g (after_look z kinds.Hold lock word) w lock found (retract_of found) (Some act.Retract))
 
+  -- a try to take the lock was refused before the writer was announced, or after it
   abbrev pub RefusesExclusive : View P → ℕ → View P → TryFault → Type 0
   RefusesExclusive v lock w (Busy word) = RefusesAnnouncing v lock w (Busy word) ⊎ FoundReaders v lock w word
   RefusesExclusive v lock w (Raced expected found) = RefusesAnnouncing v lock w (Raced expected found)

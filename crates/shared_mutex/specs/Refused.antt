@@ -12,9 +12,11 @@ use Rattle.hall.specs.declared.view.Standing.{Standing}
 use Rattle.hall.specs.declared.view.Standing.TheVariants.{Away}
 use Rattle.hall.specs.declared.view.StepEntry.{StepEntry}
 use Rattle.hall.specs.declared.view.View.{View}
-use Rattle.hall.specs.Refusals.{BusyForReading, BusyForWriting, ReadTwoWords, joined_busy_reading, joined_busy_writing, joined_two_words, still_busy_reading, still_busy_writing, still_two_words}
+use Rattle.hall.specs.Refusals.{BusyForReading, BusyForWriting, ReadTwoWords, joined_busy_reading, joined_busy_writing, joined_two_words, still_busy_writing, still_two_words}
 use Rattle.hall.specs.Trails.{last_read}
 use Rattle.hall.specs.Views.{after_look, after_step, entry_of, is_outside, place_of, standing}
+use Rattle.apply_deferred.specs.SweepLaws.{sweep_goes}
+use Rattle.apply_deferred.specs.Sweeping.{Sweeps}
 use Rattle.shared_mutex.specs.Acquiring.{AnnouncesWriter, FoundReaders, RefusesAnnouncing, RefusesExclusive, RefusesShared}
 
 -- among these steps are the reads of a lock's word for which a reader is refused with this fault
@@ -124,12 +126,16 @@ module _ {C P : Type 0} (g : Ghosts C P) where
       let look : View P = after_look v kinds.Load lock a.0 in
       goes_on_then v look u (goes_on_once v look kinds.Load lock a.0 false (standing v lock) v.part refl) (goes_on_once look u kinds.Announce lock a.0 true _ look.part a.2.0)
 
+  -- and swept
+  pub swept_goes_on : (lock slots taken : ℕ) (u z : View P) → Sweeps g lock slots taken u z → GoesOn u z
+  swept_goes_on lock slots taken u z r = let t = sweep_goes g lock slots taken u z r in record { shape = t.shape; number = t.number; more = (t.added, t.steps) }
+
   -- and that then met readers
   found_readers : (v : View P) (lock : ℕ) (w : View P) (word : ℕ) → FoundReaders g v lock w word → AddsReads (ReadAsWriter lock (Busy word)) v w
   found_readers v lock w word r =
-      let u : View P = r.0 in let look : View P = after_look u kinds.Hold lock word in let Reads : Shape → ℕ → List StepEntry → Type 0 = ReadAsWriter lock (Busy word) in
-      reads_after Reads (joined_as_writer lock (Busy word)) v u w (announced_goes_on v lock u r.1)
-      (reads_then Reads (still_as_writer lock (Busy word)) u look w (meets_readers u lock look word r.2 refl) (goes_on_once look w kinds.Retract lock r.4.0 true Away u.part r.4.1).more)
+      let u : View P = r.0 in let z : View P = r.2 in let look : View P = after_look z kinds.Hold lock word in let Reads : Shape → ℕ → List StepEntry → Type 0 = ReadAsWriter lock (Busy word) in
+      reads_after Reads (joined_as_writer lock (Busy word)) v z w (goes_on_then v u z (announced_goes_on v lock u r.1) (swept_goes_on lock v.shape.slots r.3 u z r.4))
+      (reads_then Reads (still_as_writer lock (Busy word)) z look w (meets_readers z lock look word r.5 refl) (goes_on_once look w kinds.Retract lock r.7.0 true Away z.part r.7.1).more)
 
   -- a writer that was refused
   pub exclusive_refused : (v : View P) (lock : ℕ) (w : View P) (fault : TryFault) → standing v lock ≡ Away → RefusesExclusive g v lock w fault → AddsReads (ReadAsWriter lock fault) v w

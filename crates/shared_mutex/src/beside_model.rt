@@ -7,6 +7,7 @@ ghost use Rattle.hall.specs.declared.view.Standing.TheVariants.{Away};
 ghost use Rattle.shared_mutex.specs.Beside.{HasRole};
 
 use crate::{announce, retract, try_finish, try_lock_shared, unlock, unlock_shared};
+use apply_deferred::scan;
 use hall::{Announced, ExclusiveGuard, Hall, Mode, NoCargo, Pass, Policy, SharedGuard, Word};
 use lock_model::{Act, Event, ModelLock, Role};
 use std::process::Abort;
@@ -67,7 +68,10 @@ fn call(hall: &Hall<NoCargo>, pass: &mut Pass<NoCargo>, role: Role, act: Act) ->
             Err(_) => Role::Outside,
         },
         (Act::Announce, Role::Outside) => match announce(hall, pass, 0) {
-            Ok(announced) => noted(announced),
+            Ok(mut announced) => {
+                scan(hall, pass, &mut announced);
+                noted(announced)
+            }
             Err(_) => Role::Outside,
         },
         (

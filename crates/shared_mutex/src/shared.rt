@@ -1,5 +1,6 @@
 //! Shared holds.
-ghost use Rattle.std.specs.Prelude.{◌≡◌, ◌<◌, MatchResult};
+ghost use Rattle.std.specs.Prelude.{◌≡◌, ◌<◌, IfOk, MatchResult};
+ghost use Rattle.hall.specs.Fitting.{SharedFits};
 ghost use Rattle.hall.specs.Passes.{view, IsPassOf, shape_of};
 ghost use Rattle.hall.specs.Plays.{GivesBack};
 ghost use Rattle.hall.specs.Views.{standing};
@@ -24,6 +25,7 @@ pub fn try_lock_shared<C: Cargo>(
     ensures pass { IsPassOf hall.now pass.new }
     ensures step { MatchResult result (λ guard. (guard.lock ≡ lock) × TakesShared C.CargoRule (view pass.old) lock (view pass.new)) (λ fault. RefusesShared C.CargoRule (view pass.old) lock (view pass.new) fault) }
     ensures stands { MatchResult result (λ _. standing (view pass.new) lock ≡ Inline) (λ _. standing (view pass.new) lock ≡ Away) }
+    ensures fits { IfOk result (λ guard. SharedFits (shape_of hall.now) (view pass.new) guard) }
     ensures elsewhere { ElsewhereSame (view pass.old) (view pass.new) lock }
     ensures steps { MadeAtMost (view pass.old) (view pass.new) 2 }
 {
@@ -43,8 +45,7 @@ pub fn try_lock_shared<C: Cargo>(
 /// Gives a shared hold back, by one step.
 pub fn unlock_shared<C: Cargo>(hall: &Hall<C>, pass: &mut Pass<C>, guard: SharedGuard)
     requires pass { IsPassOf hall.now pass.old }
-    requires lock { guard.lock < (shape_of hall.now).locks }
-    requires inline { standing (view pass.old) guard.lock ≡ Inline }
+    requires fits { SharedFits (shape_of hall.now) (view pass.old) guard }
     ensures pass { IsPassOf hall.now pass.new }
     ensures step { (found : _) × GivesBack C.CargoRule (view pass.old) guard.lock found (view pass.new) }
     ensures away { standing (view pass.new) guard.lock ≡ Away }

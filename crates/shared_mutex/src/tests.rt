@@ -6,6 +6,7 @@ ghost use Rattle.hall.specs.Views.{standing};
 ghost use Rattle.hall.specs.declared.view.Standing.TheVariants.{Away, Inline, Exclusive};
 
 use crate::{announce, retract, try_finish, try_lock, try_lock_shared, unlock, unlock_shared};
+use apply_deferred::scan;
 use hall::{ExclusiveGuard, Hall, NoCargo, Pass, Policy, SharedGuard, TryFault, Word};
 use lock_model::{Act, Event, ModelLock};
 use std::process::Abort;
@@ -195,8 +196,9 @@ fn writer_beside<A: Abort>(
 {
     let seat = pass.number();
     match announce(hall, pass, 0) {
-        Ok(announced) => {
+        Ok(mut announced) => {
             agrees(rt, model, seat, Act::Announce, true);
+            assert_eq!(rt; scan(hall, pass, &mut announced), 0);
             match try_finish(hall, pass, announced) {
                 Ok(guard) => {
                     agrees(rt, model, seat, Act::TakeExclusive, true);

@@ -1,6 +1,10 @@
 -- What a hold that was gained at last left elsewhere, and which steps it made.
-use Rattle.std.specs.Prelude.{◌≡◌, ℕ, ◌+◌, true, false, List, [], ◌∷◌, None}
-use Rattle.std.proofs.Common.{refl, ap, ◌∙◌}
+use Rattle.std.specs.Prelude.{◌≡◌, ℕ, ◌+◌, true, false, List, [], ◌∷◌, All, Option, None}
+use Rattle.std.proofs.Common.{refl, sym, ap, ◌∙◌, subst}
+use Rattle.lock_model.specs.declared.model.Mode.{Mode}
+use Rattle.hall.specs.declared.view.StepEntry.{StepEntry}
+use Rattle.apply_deferred.specs.SweepLaws.{AllSweeping, is_sweeping, same_mode, sweep_goes}
+use Rattle.shared_mutex.specs.Acquiring.{AnnouncesWriter}
 use Rattle.std.proofs.lemmas.List.Elements.{All-nil, All-cons}
 use Rattle.hall.specs.declared.cargo.CargoRule.{Ghosts}
 use Rattle.hall.specs.declared.guards.TryFault.{TryFault}
@@ -32,11 +36,10 @@ module _ {P : Type 0} where
 
   patient_then : (v u w : View P) (lock : ℕ) → Kept v u → AddsSteps (IsPatientTry v lock) v u → AddsSteps (IsPatientTry u lock) u w → AddsSteps (IsPatientTry v lock) v w
   patient_then v u w lock kept a b =
-      let place : u.shape.slots + lock ≡ v.shape.slots + lock = ap (λ (s : Shape). s.slots + lock) kept.1 in
-      adds_then (IsPatientTry v lock) v u w a (adds_as (IsPatientTry u lock) (IsPatientTry v lock) u w (λ e p. ((p.0.0 ∙ kept.0, p.0.1 ∙ place, p.0.2), p.1)) b)
+      adds_then (IsPatientTry v lock) v u w a (adds_as (IsPatientTry u lock) (IsPatientTry v lock) u w (λ e p. ((p.0.0 ∙ kept.0, p.0.1, p.0.2), p.1)) b)
 
   pub patient_looks : (v w : View P) (lock : ℕ) → mode_of (standing v lock) ≡ None → OnlyLooked v lock w → AddsSteps (IsPatientTry v lock) v w
-  patient_looks v w lock free looked = adds_as (IsLook v lock) (IsPatientTry v lock) v w (λ e p. ((p.0, p.1, ap mode_of p.2 ∙ free), p.4)) looked.steps
+  patient_looks v w lock free looked = adds_as (IsLook v lock) (IsPatientTry v lock) v w (λ e p. ((p.0, p.5, ap mode_of p.2 ∙ free), p.4)) looked.steps
 
   patient_step : (v w : View P) (kind : Kind) (lock word : ℕ) (y : Standing) (part : P) → mode_of (standing v lock) ≡ None → is_retract kind ≡ false → w ≡ after_step v kind lock word true y part → AddsSteps (IsPatientTry v lock) v w
   patient_step v w kind lock word y part free patient is =
@@ -52,6 +55,13 @@ module _ {P : Type 0} where
         patient_then v look w lock (kept_looked v look lock looked) (patient_looks v look lock free looked) (patient_step look w kind lock word y part free' patient is),
       )
 
+sweeping_patient : (k : Kind) → is_sweeping k ≡ true → is_retract k ≡ false
+sweeping_patient k e = elim k as (λ z. is_sweeping z ≡ true → is_retract z ≡ false) [ kinds.Retract ↦ λ h. absurd (cc) | _ ↦ λ h. refl ] e
+
+all_patient : {P : Type 0} (v : View P) (lock : ℕ) (es : List StepEntry) → AllSweeping v.number lock None es → All (IsPatientTry v lock) es
+all_patient v lock [] h = All-nil (IsPatientTry v lock)
+all_patient v lock (e ∷ es) h = All-cons (IsPatientTry v lock) e es ((h.0, h.1, h.3), sweeping_patient e.kind h.2) (all_patient v lock es h.4)
+
 module _ {C P : Type 0} (g : Ghosts C P) (v : View P) (lock : ℕ) (away : standing v lock ≡ Away) where
   free : mode_of (standing v lock) ≡ None
   free = ap mode_of away
@@ -63,11 +73,21 @@ module _ {C P : Type 0} (g : Ghosts C P) (v : View P) (lock : ℕ) (away : stand
 
   announced : (faults : List TryFault) (a : View P) → AnnouncesAtLast g v lock faults a → Kept v a × AddsSteps (IsPatientTry v lock) v a
   announced faults a e =
-      let u = e.0 in let took = e.3 in let free_u : mode_of (standing u lock) ≡ None = ap mode_of (stands_still v u lock e.2) ∙ free in
-      let pair = patient_pair u a kinds.Announce lock took.0 took.0 _ _ free_u refl took.2.0 in (
-        kept_then v u a (kept_looked v u lock e.2) pair.0,
-        patient_then v u a lock (kept_looked v u lock e.2) (patient_looks v u lock free e.2) pair.1,
+      let u = e.0 in let b = e.3 in let took = e.4 in let free_u : mode_of (standing u lock) ≡ None = ap mode_of (stands_still v u lock e.2) ∙ free in
+      let pair = patient_pair u b kinds.Announce lock took.0 took.0 _ _ free_u refl took.2.0 in
+      let swept = sweep_goes g lock v.shape.slots e.5.0 b a e.5.1 in
+      let free_b : mode_of (standing b lock) ≡ None = announced_free u b lock took free_u in
+      let kept : Kept v b = kept_then v u b (kept_looked v u lock e.2) pair.0 in (
+        kept_then v b a kept (swept.number, swept.shape),
+        patient_then v b a lock kept (patient_then v u b lock (kept_looked v u lock e.2) (patient_looks v u lock free e.2) pair.1)
+            (swept.added, swept.steps, all_patient b lock swept.added (subst (λ (m : Option Mode). AllSweeping b.number lock m swept.added) free_b swept.sweeping)),
       )
+    where
+      announced_free : (u b : View P) (lock : ℕ) → AnnouncesWriter g u lock b → mode_of (standing u lock) ≡ None → mode_of (standing b lock) ≡ None
+      announced_free u b lock took free_u =
+          let look : View P = after_look u kinds.Load lock took.0 in
+          let first : mode_of (standing look lock) ≡ mode_of (standing u lock) = same_mode u.standings lock (standing u lock) refl in
+          ap (λ (z : View P). mode_of (standing z lock)) took.2.0 ∙ same_mode look.standings lock (Announcing 0 0 false) (sym (first ∙ free_u)) ∙ first ∙ free_u
 
   -- the announced writer's tries, and its last step
   pub patient_writer : (slots : ℕ) (faults misses : List TryFault) (a w : View P) → AnnouncesAtLast g v lock faults a → standing a lock ≡ Announcing slots 0 false → HoldsAtLast g a lock misses w → AddsSteps (IsPatientTry v lock) v w
@@ -83,7 +103,6 @@ module _ {C P : Type 0} (g : Ghosts C P) (v : View P) (lock : ℕ) (away : stand
       let first = announced faults a began in let kept : Kept v u = kept_then v a u first.0 (kept_looked a u lock looked) in let free_a : mode_of (standing a lock) ≡ None = ap mode_of stands in
       let free_u : mode_of (standing u lock) ≡ None = ap mode_of (stands_still a u lock looked) ∙ free_a in
       let before : AddsSteps (IsPatientTry v lock) v u = patient_then v a u lock first.0 first.1 (patient_looks a u lock free_a looked) in
-      let place : u.shape.slots + lock ≡ v.shape.slots + lock = ap (λ (s : Shape). s.slots + lock) kept.1 in
       let last : AddsSteps (IsTry v lock) u w =
-      (entry_of u kinds.Retract lock back.0 true ∷ [], ap (λ (z : View P). z.steps) back.1.0, All-cons (IsTry v lock) (entry_of u kinds.Retract lock back.0 true) [] (kept.0, place, free_u) (All-nil (IsTry v lock))) in
+      (entry_of u kinds.Retract lock back.0 true ∷ [], ap (λ (z : View P). z.steps) back.1.0, All-cons (IsTry v lock) (entry_of u kinds.Retract lock back.0 true) [] (kept.0, refl, free_u) (All-nil (IsTry v lock))) in
       adds_then (IsTry v lock) v u w (adds_as (IsPatientTry v lock) (IsTry v lock) v u (λ e p. p.0) before) last

@@ -1,6 +1,13 @@
 -- How many tries there were, and what the clock was asked between them.
-use Rattle.std.proofs.Common.{◌≡◌, ℕ, ◌⊎◌, ◌+◌, ◌<◌, ◌≤◌, List, [], ◌∷◌, length, ap, arith}
+use Rattle.std.proofs.Common.{◌≡◌, ℕ, ◌⊎◌, ◌+◌, ◌<◌, ◌≤◌, true, false, cond, List, [], ◌∷◌, ◌++◌, length, refl, ap, ◌∙◌, arith}
 use Rattle.std.specs.declared.option.Option.{Option}
+use Rattle.lock_model.specs.declared.model.Mode.{Mode}
+use Rattle.hall.specs.declared.view.Kind.{Kind}
+use Rattle.hall.specs.declared.view.Kind.TheVariants as kinds
+use Rattle.hall.specs.declared.view.StepEntry.{StepEntry}
+use Rattle.hall.specs.Views.{mode_of, standing}
+use Rattle.apply_deferred.specs.Sweeping.{Sweeps}
+use Rattle.apply_deferred.specs.SweepLaws.{AllSweeping, is_sweeping, sweep_goes}
 use Rattle.hall.specs.declared.cargo.CargoRule.{Ghosts}
 use Rattle.hall.specs.declared.guards.TryFault.{TryFault}
 use Rattle.hall.specs.declared.guards.TryFault.TheVariants.{Busy, Raced}
@@ -18,6 +25,13 @@ module _ {P : Type 0} where
 
   abbrev pub holds : View P → ℕ
   holds v = how_many is_hold v.steps
+
+sweeping_load : (k : Kind) → is_sweeping k ≡ true → is_load k ≡ false
+sweeping_load k e = elim k as (λ z. is_sweeping z ≡ true → is_load z ≡ false) [ kinds.Load ↦ λ h. absurd (cc) | _ ↦ λ h. refl ] e
+
+no_loads : (number lock : ℕ) (mode : Option Mode) (es old : List StepEntry) → AllSweeping number lock mode es → how_many is_load (es ++ old) ≡ how_many is_load old
+no_loads number lock mode [] old h = refl
+no_loads number lock mode (e ∷ es) old h = ap (λ b. cond b 1 0 + how_many is_load (es ++ old)) (sweeping_load e.kind h.2) ∙ omega (arith, no_loads number lock mode es old h.4)
 
 module _ {C P : Type 0} (g : Ghosts C P) where
   pub reader_counts : (lock : ℕ) (v w : View P) (f : TryFault) → RefusesShared g v lock w f → loads w ≡ loads v + 1
@@ -45,12 +59,18 @@ module _ {C P : Type 0} (g : Ghosts C P) where
   pub meetings_counted : (lock : ℕ) (v w : View P) (fs : List TryFault) → ReadersMet g lock v fs w → holds w ≡ holds v + length fs
   meetings_counted lock v w fs r = all_counted (λ v w f. MeetsReaders g v lock w f) holds (λ v w f. meeting_counts lock v w f) v w fs r
 
+  -- a sweep loads no lock's word
+  pub swept_loads : (lock slots taken : ℕ) (u w : View P) → Sweeps g lock slots taken u w → loads w ≡ loads u
+  swept_loads lock slots taken u w r = let t = sweep_goes g lock slots taken u w r in let e : loads w ≡ how_many is_load (t.added ++ u.steps) = ap (how_many is_load) t.steps in omega (arith, e, no_loads u.number lock (mode_of (standing u lock)) t.added u.steps t.sweeping)
+
   -- and then one succeeded
   pub entered_counted : (lock : ℕ) (v w : View P) (fs : List TryFault) → EntersAtLast g v lock fs w → loads w ≡ loads v + (length fs + 1)
   entered_counted lock v w fs e = omega (arith, readers_counted lock v e.0 fs e.1, entering_counts lock e.0 w e.3)
 
   pub announced_counted : (lock : ℕ) (v w : View P) (fs : List TryFault) → AnnouncesAtLast g v lock fs w → loads w ≡ loads v + (length fs + 1)
-  announced_counted lock v w fs e = let last : loads w ≡ 0 + (1 + loads e.0) = ap loads e.3.2.0 in omega (arith, writers_counted lock v e.0 fs e.1, last)
+  announced_counted lock v w fs e =
+      let last : loads e.3 ≡ 0 + (1 + loads e.0) = ap loads e.4.2.0 in
+      omega (arith, writers_counted lock v e.0 fs e.1, last, swept_loads lock v.shape.slots e.5.0 e.3 w e.5.1)
 
   pub finished_counted : (lock : ℕ) (v w : View P) (fs : List TryFault) → HoldsAtLast g v lock fs w → holds w ≡ holds v + (length fs + 1)
   finished_counted lock v w fs e = let last : holds w ≡ 1 + holds e.0 = ap holds e.3.0.3 in omega (arith, meetings_counted lock v e.0 fs e.1, last)

@@ -5,7 +5,9 @@ use Rattle.hall.specs.declared.cargo.CargoRule.{Ghosts}
 use Rattle.hall.specs.declared.guards.TryFault.{TryFault}
 use Rattle.hall.specs.declared.view.Standing.{Standing}
 use Rattle.hall.specs.declared.view.Standing.TheVariants.{Away, Announcing}
+use Rattle.hall.specs.declared.view.Shape.{Shape}
 use Rattle.hall.specs.declared.view.View.{View}
+use Rattle.apply_deferred.specs.Sweeping.{Sweeps}
 use Rattle.hall.specs.Views.{standing}
 use Rattle.shared_mutex.specs.Acquiring.{ElsewhereSame, RefusesAnnouncing, RefusesShared}
 use Rattle.sync_cell.specs.Attempts.{HasAnnounced, HasEntered, HasFinished, StillAnnounced, StillOutside, StillUnannounced}
@@ -49,7 +51,7 @@ module _ {C P : Type 0} (g : Ghosts C P) where
       let fs : List TryFault = f ∷ a.0 in let e = b.2.1 in let looked : OnlyLooked v lock u = writers_looked g v lock u fs a.1 in (
         b.0 ∙ ap (λ s. Announcing s.slots 0 false) looked.shape,
         still_elsewhere v u w lock looked b.1,
-        (b.2.0 ++ fs, (e.0, all_then (λ v w fault. RefusesAnnouncing g v lock w fault) v u e.0 fs b.2.0 a.1 e.1, looked_then v u e.0 lock looked e.2, e.3)),
+        (b.2.0 ++ fs, (e.0, all_then (λ v w fault. RefusesAnnouncing g v lock w fault) v u e.0 fs b.2.0 a.1 e.1, looked_then v u e.0 lock looked e.2, e.3, e.4, (e.5.0, subst (λ (s : Shape). Sweeps g lock s.slots e.5.0 e.3 w) looked.shape e.5.1))),
       )
 
   pub announced_still : (v u w : View P) (lock : ℕ) (f h : TryFault) → StillAnnounced g v lock f u → StillAnnounced g u lock h w → StillAnnounced g v lock h w

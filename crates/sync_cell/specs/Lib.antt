@@ -4,6 +4,7 @@ pub mod TryLaws
 pub mod Attempts
 pub mod AttemptLaws
 pub mod Waits
+pub mod TrailLaws
 pub mod Refused
 pub mod Within
 pub mod WithinLaws

@@ -11,7 +11,7 @@ use Rattle.hall.specs.declared.view.Standing.TheVariants.{Away}
 use Rattle.hall.specs.declared.view.View.{View}
 use Rattle.hall.specs.Plays.{Retracts}
 use Rattle.hall.specs.Views.{standing}
-use Rattle.shared_mutex.specs.Refused.{AddsReads, GoesOn, ReadAsReader, ReadAsWriter, announced_goes_on, announcing_refused, goes_on_once, goes_on_then, joined_as_reader, joined_as_writer, meets_readers, reader_refused, reads_after, reads_then, still_as_writer}
+use Rattle.shared_mutex.specs.Refused.{AddsReads, GoesOn, ReadAsReader, ReadAsWriter, announced_goes_on, announcing_refused, goes_on_once, goes_on_then, joined_as_reader, joined_as_writer, meets_readers, reader_refused, reads_after, reads_then, still_as_writer, swept_goes_on}
 use Rattle.sync_cell.specs.Tries.{AnnouncesAtLast, GivesUp, MeetsReaders, OnlyLooked, ReadersRefused, WritersRefused}
 use Rattle.sync_cell.specs.TryLaws.{meetings_looked, readers_looked, writers_looked}
 use Rattle.sync_cell.specs.Waits.{GaveUpLate}
@@ -38,7 +38,7 @@ module _ {C P : Type 0} (g : Ghosts C P) where
 
   -- a writer that was announced at last
   pub announced_at_last : (v : View P) (lock : ℕ) (faults : List TryFault) (a : View P) → AnnouncesAtLast g v lock faults a → GoesOn v a
-  announced_at_last v lock faults a e = goes_on_then v e.0 a (looked_goes_on v e.0 lock e.2) (announced_goes_on g e.0 lock a e.3)
+  announced_at_last v lock faults a e = goes_on_then v e.3 a (goes_on_then v e.0 e.3 (looked_goes_on v e.0 lock e.2) (announced_goes_on g e.0 lock e.3 e.4)) (swept_goes_on g lock v.shape.slots e.5.0 e.3 a e.5.1)
 
   -- it met readers, and then took its announcement back
   met_and_left : (v t u : View P) (lock : ℕ) (w : View P) (fault : TryFault) → GoesOn v t → MeetsReaders g t lock u fault → (found : ℕ) × Retracts g u lock found w → AddsReads (ReadAsWriter lock fault) v w

@@ -9,7 +9,9 @@ use Rattle.hall.specs.declared.view.StepEntry.{StepEntry}
 use Rattle.hall.specs.declared.view.View.{View}
 use Rattle.hall.specs.Plays.{HoldMisses, Holding, Retracts}
 use Rattle.hall.specs.Reasons.{WasNotAlone}
+use Rattle.hall.specs.Treading.{Treads, IsBetween}
 use Rattle.hall.specs.Views.{mode_of, place_of, standing}
+use Rattle.apply_deferred.specs.Sweeping.{Sweeps}
 use Rattle.shared_mutex.specs.Acquiring.{TakesShared, RefusesShared, AnnouncesWriter, RefusesAnnouncing}
 
 -- tries that were all refused took v to w, each as `refuses` says; the newest fault stands first
@@ -24,11 +26,11 @@ is_retract kind = false
 module _ {P : Type 0} where
   -- a load of a lock's word or an exchange on it that failed, under the pass's number, from the standing that it has there
   abbrev pub IsLook : View P → ℕ → StepEntry → Type 0
-  IsLook v lock e = (e.number ≡ v.number) × (e.place ≡ place_of v lock) × (e.before ≡ standing v lock) × (e.won ≡ false) × (is_retract e.kind ≡ false)
+  IsLook v lock e = (e.number ≡ v.number) × (e.place ≡ place_of v lock) × (e.before ≡ standing v lock) × (e.won ≡ false) × (is_retract e.kind ≡ false) × (e.lock ≡ lock)
 
-  -- a step on a lock's word, under the pass's number, by a pass that holds no mode there
+  -- a step for a lock, on its word or on a slot, under the pass's number, by a pass that holds no mode there
   abbrev pub IsTry : View P → ℕ → StepEntry → Type 0
-  IsTry v lock e = (e.number ≡ v.number) × (e.place ≡ place_of v lock) × (mode_of e.before ≡ None)
+  IsTry v lock e = (e.number ≡ v.number) × (e.lock ≡ lock) × (mode_of e.before ≡ None)
 
   -- such a step, and none that takes an announcement back
   abbrev pub IsPatientTry : View P → ℕ → StepEntry → Type 0
@@ -48,6 +50,7 @@ module _ {P : Type 0} where
     pub standings : w.standings ≡ v.standings
     pub part : w.part ≡ v.part
     pub steps : AddsSteps (IsLook v lock) v w
+    pub trail : Treads (IsBetween lock (standing v lock) (standing v lock)) v w
 
 module _ {C P : Type 0} (g : Ghosts C P) where
   -- tries to enter that were refused with these faults
@@ -71,9 +74,9 @@ module _ {C P : Type 0} (g : Ghosts C P) where
   abbrev pub EntersAtLast : View P → ℕ → List TryFault → View P → Type 0
   EntersAtLast v lock faults w = (u : View P) × ReadersRefused lock v faults u × OnlyLooked v lock u × TakesShared g u lock w
 
-  -- and so for a try that announced a writer
+  -- and so for a try that announced a writer, which then swept
   abbrev pub AnnouncesAtLast : View P → ℕ → List TryFault → View P → Type 0
-  AnnouncesAtLast v lock faults w = (u : View P) × WritersRefused lock v faults u × OnlyLooked v lock u × AnnouncesWriter g u lock w
+  AnnouncesAtLast v lock faults w = (u : View P) × WritersRefused lock v faults u × OnlyLooked v lock u × (a : View P) × AnnouncesWriter g u lock a × ((taken : ℕ) × Sweeps g lock v.shape.slots taken a w)
 
   -- and so for one by which the announced writer took the lock
   abbrev pub HoldsAtLast : View P → ℕ → List TryFault → View P → Type 0

@@ -1,6 +1,6 @@
 -- Laws of tries that were refused: they only looked.
 use Rattle.std.specs.Prelude.{◌≡◌, ℕ, ◌+◌, false, List, [], ◌∷◌, ◌++◌, slice_index_or}
-use Rattle.std.proofs.Common.{refl, sym, ap, ◌∙◌, append_assoc}
+use Rattle.std.proofs.Common.{refl, sym, ap, ◌∙◌, subst, append_assoc}
 use Rattle.std.proofs.lemmas.List.{set-get_or}
 use Rattle.std.proofs.lemmas.List.Elements.{All-nil, All-cons, All-append}
 use Rattle.hall.specs.declared.cargo.CargoRule.{Ghosts}
@@ -13,6 +13,7 @@ use Rattle.hall.specs.declared.view.Standing.{Standing}
 use Rattle.hall.specs.declared.view.Standing.TheVariants.{Away}
 use Rattle.hall.specs.declared.view.StepEntry.{StepEntry}
 use Rattle.hall.specs.declared.view.View.{View}
+use Rattle.hall.specs.Treading.{IsBetween, treads_as, treads_none, treads_step, treads_then}
 use Rattle.hall.specs.Views.{after_look, entry_of, standing}
 use Rattle.shared_mutex.specs.Acquiring.{RefusesShared, RefusesAnnouncing}
 use Rattle.sync_cell.specs.Tries.{AllRefused, AddsSteps, IsLook, MeetsReaders, OnlyLooked, ReadersMet, ReadersRefused, WritersRefused, is_retract}
@@ -38,6 +39,7 @@ module _ {P : Type 0} where
     standings = ap (λ (z : View P). z.standings) same;
     part = ap (λ (z : View P). z.part) same;
     steps = adds_none (IsLook v lock) v w same;
+    trail = treads_none (IsBetween lock (standing v lock) (standing v lock)) v w (ap (λ (z : View P). z.number) same) (ap (λ (z : View P). z.trail) same);
   }
 
   -- one look
@@ -50,7 +52,8 @@ module _ {P : Type 0} where
     quota = ap (λ (z : View P). z.quota) is;
     standings = ap (λ (z : View P). z.standings) is ∙ set-get_or v.standings lock Away;
     part = ap (λ (z : View P). z.part) is;
-    steps = (entry_of v kind lock word false ∷ [], ap (λ (z : View P). z.steps) is, All-cons (IsLook v lock) (entry_of v kind lock word false) [] (refl, refl, refl, refl, patient) (All-nil (IsLook v lock)));
+    steps = (entry_of v kind lock word false ∷ [], ap (λ (z : View P). z.steps) is, All-cons (IsLook v lock) (entry_of v kind lock word false) [] (refl, refl, refl, refl, patient, refl) (All-nil (IsLook v lock)));
+    trail = treads_step v w kind lock word false (standing v lock) v.part is;
   }
 
   -- looks after looks
@@ -65,7 +68,9 @@ module _ {P : Type 0} where
         quota = b.quota ∙ a.quota;
         standings = b.standings ∙ a.standings;
         part = b.part ∙ a.part;
-        steps = adds_then (IsLook v lock) v u w a.steps (adds_as (IsLook u lock) (IsLook v lock) u w (λ e p. (p.0 ∙ a.number, p.1 ∙ place, p.2 ∙ stands, p.3, p.4)) b.steps);
+        steps = adds_then (IsLook v lock) v u w a.steps (adds_as (IsLook u lock) (IsLook v lock) u w (λ e p. (p.0 ∙ a.number, p.1 ∙ place, p.2 ∙ stands, p.3, p.4, p.5)) b.steps);
+        trail = treads_then (IsBetween lock (standing v lock) (standing v lock)) v u w a.trail
+            (treads_as (IsBetween lock (standing u lock) (standing u lock)) (IsBetween lock (standing v lock) (standing v lock)) u w (λ m p. subst (λ x. IsBetween lock x x m) stands p) b.trail);
       }
 
   -- refused tries that each only looked

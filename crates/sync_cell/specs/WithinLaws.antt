@@ -11,6 +11,7 @@ use Rattle.map_cargo.specs.declared.entry.Part.{Part}
 use Rattle.map_cargo.specs.Gaining.{gained_by, gained_from}
 use Rattle.map_cargo.specs.StepLaws.{more_one, more_then}
 use Rattle.map_cargo.specs.Steps.{Gained, MoreSteps}
+use Rattle.apply_deferred.specs.SweepLaws.{sweep_goes}
 use Rattle.sync_cell.specs.Cells.{maps}
 use Rattle.sync_cell.specs.Tries.{AnnouncesAtLast, EntersAtLast, OnlyLooked, WritesAtLast}
 
@@ -24,9 +25,11 @@ load_more v lock word = more_one v (after_look v kinds.Load lock word) (entry_of
 -- and so does a writer that is announced at last
 announced_more : (v : View Part) (cell : ℕ) (faults : List TryFault) (a : View Part) → AnnouncesAtLast maps v cell faults a → MoreSteps v a
 announced_more v cell faults a s =
-    let u : View Part = s.0 in let seen : ℕ = s.3.0 in let look : View Part = after_look u kinds.Load cell seen in
-    more_then v u a (looked_more v u cell s.2)
-    (more_then u look a (load_more u cell seen) (more_one look a (entry_of look kinds.Announce cell seen true) (ap (λ (z : View Part). z.steps) s.3.2.0)))
+    let u : View Part = s.0 in let b : View Part = s.3 in let seen : ℕ = s.4.0 in let look : View Part = after_look u kinds.Load cell seen in let swept = sweep_goes maps cell v.shape.slots s.5.0 b a s.5.1 in
+    more_then v b a
+    (more_then v u b (looked_more v u cell s.2)
+    (more_then u look b (load_more u cell seen) (more_one look b (entry_of look kinds.Announce cell seen true) (ap (λ (z : View Part). z.steps) s.4.2.0))))
+    record { added = swept.added; stand = swept.steps }
 
 -- its words mean its map, and all else that the pass knew stays
 pub gained_to_read : (v : View Part) (cell : ℕ) (faults : List TryFault) (w : View Part) → EntersAtLast maps v cell faults w → Gained no_entries cell v w
@@ -36,12 +39,12 @@ gained_to_read v cell faults w s =
 
 pub gained_to_write : (v : View Part) (cell : ℕ) (faults misses : List TryFault) (w : View Part) → WritesAtLast maps v cell faults misses w → Gained no_entries cell v w
 gained_to_write v cell faults misses w s =
-    let first = s.1 in let is = first.3.2.0 in let last = s.2 in
+    let first = s.1 in let is = first.4.2.0 in let last = s.2 in let swept = sweep_goes maps cell v.shape.slots first.5.0 first.3 s.0 first.5.1 in
     gained_from no_entries cell last.0 v w
-    (last.2.part ∙ ap (λ (z : View Part). z.part) is ∙ first.2.part)
-    (last.2.number ∙ ap (λ (z : View Part). z.number) is ∙ first.2.number)
-    (last.2.quota ∙ ap (λ (z : View Part). z.quota) is ∙ first.2.quota)
-    (last.2.span ∙ ap (λ (z : View Part). z.span) is ∙ first.2.span)
-    (last.2.taken ∙ ap (λ (z : View Part). z.taken) is ∙ first.2.taken)
+    (last.2.part ∙ swept.part ∙ ap (λ (z : View Part). z.part) is ∙ first.2.part)
+    (last.2.number ∙ swept.number ∙ ap (λ (z : View Part). z.number) is ∙ first.2.number)
+    (last.2.quota ∙ swept.quota ∙ ap (λ (z : View Part). z.quota) is ∙ first.2.quota)
+    (last.2.span ∙ swept.span ∙ ap (λ (z : View Part). z.span) is ∙ first.2.span)
+    (last.2.taken ∙ swept.taken ∙ ap (λ (z : View Part). z.taken) is ∙ first.2.taken)
     (more_then v s.0 last.0 (announced_more v cell faults s.0 first) (looked_more s.0 last.0 cell last.2))
     (gained_by no_entries kinds.Hold Exclusive last.0 cell 4 w last.3.0)

@@ -11,6 +11,7 @@ ghost use Rattle.sync_cell.specs.AttemptLaws as laws;
 ghost use Rattle.sync_cell.specs.Attempts.{HasAnnounced, HasEntered, HasFinished, StillAnnounced, StillOutside, StillUnannounced, how_many, is_hold, is_load, last_fault};
 ghost use Rattle.sync_cell.specs.Cells.{maps};
 
+use apply_deferred::scan;
 use hall::{Announced, ExclusiveGuard, Hall, Pass, SharedGuard, TryFault};
 use map_cargo::MapCargo;
 use shared_mutex::{announce, try_finish, try_lock_shared};
@@ -70,7 +71,7 @@ impl<'a> Attempt for ReadAttempt<'a> {
     }
 }
 
-/// Announcing a writer at a cell, by a pass that is away from it.
+/// Announcing a writer at a cell, by a pass that is away from it, and sweeping for it.
 ///
 /// What an announced writer has is its pass's standing. Between two tries the waits of this crate name it by its cell alone.
 #[derive(Drop)]
@@ -120,11 +121,13 @@ impl<'a> Attempt for AnnounceAttempt<'a> {
     ) };
 
     fn attempt(&mut self) -> Result<(), TryFault> {
+        let mut announced = announce(self.hall, self.pass, self.cell)?;
+        scan(self.hall, self.pass, &mut announced);
         let Announced {
             lock: _,
             swept: _,
             from_upgrade: _,
-        } = announce(self.hall, self.pass, self.cell)?;
+        } = announced;
         Ok(())
     }
 }

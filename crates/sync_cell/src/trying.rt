@@ -1,5 +1,5 @@
 //! Trying for a cell once, and giving one back.
-ghost use Rattle.std.specs.Prelude.{◌≡◌, ◌<◌, MatchResult};
+ghost use Rattle.std.specs.Prelude.{◌≡◌, ◌+◌, ◌*◌, ◌<◌, MatchResult};
 ghost use Rattle.hall.specs.Passes.{view, IsPassOf, shape_of};
 ghost use Rattle.hall.specs.Plays.{GivesBack, Releases};
 ghost use Rattle.hall.specs.Views.{standing};
@@ -38,9 +38,9 @@ pub fn try_rlock(
     }
 }
 
-/// Tries to hold the cell for writing: it announces a writer, and tries once to finish. Where readers are inside it
-/// takes the announcement back, and answers `Busy` with the word that counted them. The pass has to be away from the
-/// cell, and is away after a refusal. At most 4 steps.
+/// Tries to hold the cell for writing: it announces a writer, sweeps, and tries once to finish. Where readers are inside
+/// it takes the announcement back, and answers `Busy` with the word that counted them. The pass has to be away from the
+/// cell, and is away after a refusal. At most 2 steps for each slot, and 5 more.
 pub fn try_wlock(
     hall: &Hall<MapCargo>,
     pass: &mut Pass<MapCargo>,
@@ -53,7 +53,7 @@ pub fn try_wlock(
     ensures step { MatchResult result (λ ptr. (ptr.guard.lock ≡ cell) × TakesExclusive maps (view pass.old) cell (view pass.new)) (λ fault. RefusesExclusive maps (view pass.old) cell (view pass.new) fault) }
     ensures stands { MatchResult result (λ _. standing (view pass.new) cell ≡ Exclusive) (λ _. standing (view pass.new) cell ≡ Away) }
     ensures elsewhere { ElsewhereSame (view pass.old) (view pass.new) cell }
-    ensures steps { MadeAtMost (view pass.old) (view pass.new) 4 }
+    ensures steps { MadeAtMost (view pass.old) (view pass.new) (2 * (shape_of hall.now).slots + 5) }
 {
     match try_lock(hall, pass, cell) {
         Ok(guard) => Ok(WritePtr { guard }),

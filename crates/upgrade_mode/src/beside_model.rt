@@ -10,8 +10,9 @@ ghost use Rattle.shared_mutex.specs.Beside.{HasRole};
 
 use crate::{
     BeginRaced, begin_upgrade, exclusive_to_shared, exclusive_to_upgrade, retract_upgrade,
-    try_finish_upgrade, try_lock_upgrade, unlock_upgrade, upgrade_to_shared,
+    try_lock_upgrade, unlock_upgrade, upgrade_to_shared,
 };
+use apply_deferred::scan;
 use hall::{
     Announced, ExclusiveGuard, Hall, Mode, NoCargo, Pass, Policy, SharedGuard, UpgradeGuard, Word,
 };
@@ -76,7 +77,8 @@ fn from_outside(hall: &Hall<NoCargo>, pass: &mut Pass<NoCargo>, act: Act) -> Rol
             Err(_) => Role::Outside,
         },
         Act::Announce => match announce(hall, pass, 0) {
-            Ok(announced) => {
+            Ok(mut announced) => {
+                scan(hall, pass, &mut announced);
                 let_go(announced);
                 Role::Announces {
                     from_upgrade: false,
@@ -96,7 +98,8 @@ fn from_upgrade(hall: &Hall<NoCargo>, pass: &mut Pass<NoCargo>, act: Act) -> Rol
 {
     match act {
         Act::Announce => match begin_upgrade(hall, pass, UpgradeGuard { lock: 0 }) {
-            Ok(announced) => {
+            Ok(mut announced) => {
+                scan(hall, pass, &mut announced);
                 let_go(announced);
                 Role::Announces { from_upgrade: true }
             }
@@ -184,7 +187,7 @@ fn from_raised(hall: &Hall<NoCargo>, pass: &mut Pass<NoCargo>, act: Act) -> Role
     ensures { HasRole hall.now pass.new result }
 {
     match act {
-        Act::TakeExclusive => match try_finish_upgrade(hall, pass, announced(true)) {
+        Act::TakeExclusive => match try_finish(hall, pass, announced(true)) {
             Ok(ExclusiveGuard { lock: _ }) => Role::Holds(Mode::Exclusive),
             Err((announced, _)) => {
                 let_go(announced);

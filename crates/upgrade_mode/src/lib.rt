@@ -3,7 +3,8 @@
 //! is the upgrade mode of Folly's `SharedMutex`.
 //!
 //! It stands on `hall`, each of whose events is one atomic step, and beside `shared_mutex`, which gives and takes the
-//! shared and the exclusive holds.
+//! shared and the exclusive holds; its `try_finish` finishes a writer that was announced from upgrade too, after `scan` of
+//! `apply_deferred`.
 //!
 //! Its contracts say which standing each call leaves, how many steps it makes, and why it was refused: the two words of a
 //! refusal were read in the call, and it comes only where another seat had been at the lock. A lowering is one step: at no
@@ -19,5 +20,5 @@ mod taking;
 mod tests;
 
 pub use lowering::{exclusive_to_shared, exclusive_to_upgrade, upgrade_to_shared};
-pub use raising::{BeginRaced, begin_upgrade, retract_upgrade, try_finish_upgrade};
+pub use raising::{BeginRaced, begin_upgrade, retract_upgrade};
 pub use taking::{try_lock_upgrade, unlock_upgrade};

@@ -1,9 +1,10 @@
 //! From a stronger hold to a weaker one, by one step each: nobody comes in between.
-ghost use Rattle.std.specs.Prelude.{◌≡◌, ◌<◌};
+ghost use Rattle.std.specs.Prelude.{◌≡◌};
+ghost use Rattle.hall.specs.Fitting.{ExclusiveFits, SharedFits, UpgradeFits};
 ghost use Rattle.hall.specs.Passes.{view, IsPassOf, shape_of};
 ghost use Rattle.hall.specs.Upgrading.{LowersUpgrade, LowersToShared, LowersToUpgrade};
 ghost use Rattle.hall.specs.Views.{standing};
-ghost use Rattle.hall.specs.declared.view.Standing.TheVariants.{Inline, Upgrade, Exclusive};
+ghost use Rattle.hall.specs.declared.view.Standing.TheVariants.{Inline, Upgrade};
 ghost use Rattle.shared_mutex.specs.Acquiring.{ElsewhereSame, MadeAtMost};
 
 use hall::{Cargo, ExclusiveGuard, Hall, Pass, SharedGuard, UpgradeGuard};
@@ -15,12 +16,12 @@ pub fn upgrade_to_shared<C: Cargo>(
     guard: UpgradeGuard,
 ) -> SharedGuard
     requires pass { IsPassOf hall.now pass.old }
-    requires lock { guard.lock < (shape_of hall.now).locks }
-    requires upgrade { standing (view pass.old) guard.lock ≡ Upgrade }
+    requires fits { UpgradeFits (shape_of hall.now) (view pass.old) guard }
     ensures pass { IsPassOf hall.now pass.new }
     ensures guard { result.lock ≡ guard.lock }
     ensures step { (found : _) × LowersUpgrade C.CargoRule (view pass.old) guard.lock found (view pass.new) }
     ensures inline { standing (view pass.new) guard.lock ≡ Inline }
+    ensures fits { SharedFits (shape_of hall.now) (view pass.new) result }
     ensures elsewhere { ElsewhereSame (view pass.old) (view pass.new) guard.lock }
     ensures steps { MadeAtMost (view pass.old) (view pass.new) 1 }
 {
@@ -36,13 +37,13 @@ pub fn exclusive_to_shared<C: Cargo>(
     guard: ExclusiveGuard,
 ) -> SharedGuard
     requires pass { IsPassOf hall.now pass.old }
-    requires lock { guard.lock < (shape_of hall.now).locks }
-    requires exclusive { standing (view pass.old) guard.lock ≡ Exclusive }
+    requires fits { ExclusiveFits (shape_of hall.now) (view pass.old) guard }
     requires settled { C.settled guard.lock (view pass.old).part }
     ensures pass { IsPassOf hall.now pass.new }
     ensures guard { result.lock ≡ guard.lock }
     ensures step { LowersToShared C.CargoRule (view pass.old) guard.lock 8 (view pass.new) }
     ensures inline { standing (view pass.new) guard.lock ≡ Inline }
+    ensures fits { SharedFits (shape_of hall.now) (view pass.new) result }
     ensures elsewhere { ElsewhereSame (view pass.old) (view pass.new) guard.lock }
     ensures steps { MadeAtMost (view pass.old) (view pass.new) 1 }
 {
@@ -58,13 +59,13 @@ pub fn exclusive_to_upgrade<C: Cargo>(
     guard: ExclusiveGuard,
 ) -> UpgradeGuard
     requires pass { IsPassOf hall.now pass.old }
-    requires lock { guard.lock < (shape_of hall.now).locks }
-    requires exclusive { standing (view pass.old) guard.lock ≡ Exclusive }
+    requires fits { ExclusiveFits (shape_of hall.now) (view pass.old) guard }
     requires settled { C.settled guard.lock (view pass.old).part }
     ensures pass { IsPassOf hall.now pass.new }
     ensures guard { result.lock ≡ guard.lock }
     ensures step { LowersToUpgrade C.CargoRule (view pass.old) guard.lock 8 (view pass.new) }
     ensures upgrade { standing (view pass.new) guard.lock ≡ Upgrade }
+    ensures fits { UpgradeFits (shape_of hall.now) (view pass.new) result }
     ensures elsewhere { ElsewhereSame (view pass.old) (view pass.new) guard.lock }
     ensures steps { MadeAtMost (view pass.old) (view pass.new) 1 }
 {

@@ -1,5 +1,6 @@
 //! Upgrade holds.
-ghost use Rattle.std.specs.Prelude.{◌≡◌, ◌<◌, MatchResult};
+ghost use Rattle.std.specs.Prelude.{◌≡◌, ◌<◌, IfOk, MatchResult};
+ghost use Rattle.hall.specs.Fitting.{UpgradeFits};
 ghost use Rattle.hall.specs.Passes.{view, IsPassOf, shape_of};
 ghost use Rattle.hall.specs.Upgrading.{LeavesUpgrade};
 ghost use Rattle.hall.specs.Views.{standing};
@@ -25,6 +26,7 @@ pub fn try_lock_upgrade<C: Cargo>(
     ensures pass { IsPassOf hall.now pass.new }
     ensures step { MatchResult result (λ guard. (guard.lock ≡ lock) × EntersUpgrade C.CargoRule (view pass.old) lock (view pass.new)) (λ fault. RefusesUpgrade C.CargoRule (view pass.old) lock (view pass.new) fault) }
     ensures stands { MatchResult result (λ _. standing (view pass.new) lock ≡ Upgrade) (λ _. standing (view pass.new) lock ≡ Away) }
+    ensures fits { IfOk result (λ guard. UpgradeFits (shape_of hall.now) (view pass.new) guard) }
     ensures elsewhere { ElsewhereSame (view pass.old) (view pass.new) lock }
     ensures steps { MadeAtMost (view pass.old) (view pass.new) 2 }
 {
@@ -44,8 +46,7 @@ pub fn try_lock_upgrade<C: Cargo>(
 /// Gives an upgrade hold back, by one step.
 pub fn unlock_upgrade<C: Cargo>(hall: &Hall<C>, pass: &mut Pass<C>, guard: UpgradeGuard)
     requires pass { IsPassOf hall.now pass.old }
-    requires lock { guard.lock < (shape_of hall.now).locks }
-    requires upgrade { standing (view pass.old) guard.lock ≡ Upgrade }
+    requires fits { UpgradeFits (shape_of hall.now) (view pass.old) guard }
     ensures pass { IsPassOf hall.now pass.new }
     ensures step { (found : _) × LeavesUpgrade C.CargoRule (view pass.old) guard.lock found (view pass.new) }
     ensures away { standing (view pass.new) guard.lock ≡ Away }

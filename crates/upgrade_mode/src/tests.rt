@@ -7,13 +7,14 @@ ghost use Rattle.hall.specs.declared.view.Standing.TheVariants.{Away, Inline, Up
 
 use crate::{
     BeginRaced, begin_upgrade, exclusive_to_shared, exclusive_to_upgrade, retract_upgrade,
-    try_finish_upgrade, try_lock_upgrade, unlock_upgrade, upgrade_to_shared,
+    try_lock_upgrade, unlock_upgrade, upgrade_to_shared,
 };
+use apply_deferred::scan;
 use hall::{
     Announced, ExclusiveGuard, Hall, NoCargo, Pass, Policy, SharedGuard, TryFault, UpgradeGuard,
     Word,
 };
-use shared_mutex::{try_lock, try_lock_shared, unlock, unlock_shared};
+use shared_mutex::{try_finish, try_lock, try_lock_shared, unlock, unlock_shared};
 use std::process::Abort;
 
 const ONE: u64 = 4294967296;
@@ -102,10 +103,13 @@ fn begun<A: Abort>(
     requires pass { IsPassOf hall.now pass.old × (0 < (shape_of hall.now).locks) }
     requires upgrade { (guard.lock ≡ 0) × (standing (view pass.old) 0 ≡ Upgrade) }
     ensures pass { IsPassOf hall.now pass.new }
-    ensures announced { (result.lock ≡ 0) × (standing (view pass.new) 0 ≡ Announcing (shape_of hall.now).slots 0 true) }
+    ensures announced { (result.lock ≡ 0) × (result.swept ≡ true) × (result.from_upgrade ≡ true) × (standing (view pass.new) 0 ≡ Announcing (shape_of hall.now).slots 0 true) }
 {
     match begin_upgrade(hall, pass, guard) {
-        Ok(announced) => announced,
+        Ok(mut announced) => {
+            assert_eq!(rt; scan(hall, pass, &mut announced), 0);
+            announced
+        }
         Err(
             BeginRaced {
                 guard: UpgradeGuard { lock: _ },
@@ -123,11 +127,11 @@ fn finished<A: Abort>(
     announced: Announced,
 ) -> ExclusiveGuard
     requires pass { IsPassOf hall.now pass.old × (0 < (shape_of hall.now).locks) }
-    requires announced { (announced.lock ≡ 0) × (standing (view pass.old) 0 ≡ Announcing (shape_of hall.now).slots 0 true) }
+    requires announced { (announced.lock ≡ 0) × (announced.swept ≡ true) × (announced.from_upgrade ≡ true) × (standing (view pass.old) 0 ≡ Announcing (shape_of hall.now).slots 0 true) }
     ensures pass { IsPassOf hall.now pass.new }
     ensures held { (result.lock ≡ 0) × (standing (view pass.new) 0 ≡ Exclusive) }
 {
-    match try_finish_upgrade(hall, pass, announced) {
+    match try_finish(hall, pass, announced) {
         Ok(guard) => guard,
         Err(
             (
@@ -151,11 +155,11 @@ fn not_finished<A: Abort>(
     word: u64,
 ) -> Announced
     requires pass { IsPassOf hall.now pass.old × (0 < (shape_of hall.now).locks) }
-    requires announced { (announced.lock ≡ 0) × (standing (view pass.old) 0 ≡ Announcing (shape_of hall.now).slots 0 true) }
+    requires announced { (announced.lock ≡ 0) × (announced.swept ≡ true) × (announced.from_upgrade ≡ true) × (standing (view pass.old) 0 ≡ Announcing (shape_of hall.now).slots 0 true) }
     ensures pass { IsPassOf hall.now pass.new }
-    ensures announced { (result.lock ≡ 0) × (standing (view pass.new) 0 ≡ Announcing (shape_of hall.now).slots 0 true) }
+    ensures announced { (result.lock ≡ 0) × (result.swept ≡ true) × (result.from_upgrade ≡ true) × (standing (view pass.new) 0 ≡ Announcing (shape_of hall.now).slots 0 true) }
 {
-    match try_finish_upgrade(hall, pass, announced) {
+    match try_finish(hall, pass, announced) {
         Ok(ExclusiveGuard { lock: _ }) => rt.abort(),
         Err((announced, found)) => {
             assert_eq!(rt; found, Word(word));

@@ -28,7 +28,7 @@ total-one f (x ∷ xs) zero v e h = omega (arith, total-zero f xs (λ i y. h (su
 total-one f (x ∷ xs) (suc k) v e h = omega (arith, h zero x (λ z. absurd (omega arith)) refl, total-one f xs k v e (λ i y ne. h (suc i) y (λ z. ne (omega arith))))
 
 module _ {P : Type 0} where
-  at_home : (nodes : ℕ) (words : List ℕ) (homes : List (Maybe (Option P))) (at : ℕ → Desk P) (older newer : List Waiter) (value : P) (o : Owner P) → owner_weight ruling o ≡ 0 → Held nodes words homes at older newer value o → AtHome homes value
+  at_home : (nodes : ℕ) (words : List ℕ) (homes : List (Maybe (Option P))) (at : ℕ → Desk P) (older newer : List (Waiter P)) (value : P) (o : Owner P) → owner_weight ruling o ≡ 0 → Held nodes words homes at older newer value o → AtHome homes value
   at_home nodes words homes at older newer value nobody e h = h.3
   at_home nodes words homes at older newer value (turn n k) e h = absurd (omega arith)
   at_home nodes words homes at older newer value (granted n b j k) e h = h.2
@@ -53,7 +53,7 @@ module _ {P : Type 0} (rule : Goods P → Type 0) (nodes : ℕ) where
       let s = f.0 in let o = f.1.0 in let me = f.1.1 in
       let at : ℕ → Desk P = desk s.words s.homes o.posted o.answered in
       let none-left = no_owner s o id v me idle all in
-      let home = at_home nodes s.words s.homes at o.older o.newer o.value o.owner (omega (arith, o.standing ruling (λ m. (refl, refl, (λ j. refl), (λ j. refl), λ a. refl)), none-left)) o.held in
+      let home = at_home nodes s.words s.homes at o.older o.newer o.value o.owner (omega (arith, o.standing ruling (λ m. (refl, refl, (λ j. refl), (λ j. refl), λ j a. refl)), none-left)) o.held in
       let rests : (n : ℕ) → n < nodes → AtRest (at n) = λ n low. dite (ℕ_discrete n v.number)
       (λ e. subst (λ (i : ℕ). AtRest (at i)) (sym e) (subst (λ (g : Stage P). Seated g (at v.number)) idle (o.seated id v me live-now)))
       (λ ne. o.unused id v n me live-now (all n low) ne) in (

@@ -1,23 +1,23 @@
 -- The two steps by which a pass enters: its status, and its swap into the central word.
-use Rattle.std.proofs.Common.{◌≡◌, ◌≢◌, ℕ, ◌+◌, ◌*◌, ◌<◌, List, [], ◌∷◌, length, set, get_or, length-set, get_or-set_same, get_or-set_other, Option, Some, false, true≢false, refl, sym, ap, ◌∙◌, subst, inl, inr, ⊎_elim, arith}
+use Rattle.std.proofs.Common.{◌≡◌, ◌≢◌, ℕ, ◌+◌, ◌*◌, ◌<◌, List, [], ◌∷◌, length, set, get_or, length-set, get_or-set_same, get_or-set_other, Option, Some, None, false, true≢false, refl, sym, ap, ◌∙◌, subst, inl, inr, ⊎_elim, arith}
 use mathlib.Core.Option.{none, Option as Maybe}
 use mathlib.Core.Logic.{dite}
 use native.Mathlib.Decide.{ℕ_discrete}
 use lib.ListN.{get_elem?}
-use Rattle.atomic_table.specs.Table.{step, keeps, takes, Allows, stepped}
+use Rattle.atomic_table.specs.Table.{step, keeps, takes, Allows}
 use Rattle.atomic_table.proofs.Lists.{set_here}
 use Rattle.waiter_chain.specs.declared.view.View.{View}
 use Rattle.waiter_chain.specs.declared.view.Stage.{Stage}
 use Rattle.waiter_chain.specs.declared.view.Stage.TheVariants.{Idle, Ready, Behind, Owns}
-use Rattle.waiter_chain.specs.declared.view.Event.TheVariants.{SetStatus, SwapIn}
+use Rattle.waiter_chain.specs.declared.view.Event.TheVariants.{SwapIn}
 use Rattle.waiter_chain.specs.Goods.{Goods}
-use Rattle.waiter_chain.specs.Chains.{Waiter, Line, desk, Desk, Seated, AtRest, Granted, front, line_weight, Owner, owner_weight, nobody, turn, granted, Queued, Held, Lawful}
-use Rattle.waiter_chain.specs.Steps.{SeatState, ownership, entry, moved, readied, swapped}
+use Rattle.waiter_chain.specs.Chains.{Waiter, Line, desk, Desk, Seated, Granted, front, line_weight, Owner, owner_weight, nobody, turn, granted, Queued, Held, Lawful}
+use Rattle.waiter_chain.specs.Steps.{SeatState, ownership, entry, moved, swapped}
 use Rattle.view_sums.specs.Sums.{same-ne, same-eq}
-use Rattle.waiter_chain.proofs.Rules.{was_free, owns-injective, turn-nobody, awake, desk-same, desk-central, waits-other, done-other, taken-other, held-other, live, alone, covers-own, low_number, sound, Goes, restaged-own, parts-same}
+use Rattle.waiter_chain.proofs.Rules.{was_free, owns-injective, turn-nobody, awake, desk-same, desk-central, waits-other, done-other, taken-other, live, alone, low_number, sound, Goes, restaged-own, parts-same}
 
 -- a node joins the newer line
-queued-push : (nodes : ℕ) (words words' : List ℕ) (x : Waiter) (older newer : List Waiter) (f e m : ℕ) → get_or words' 0 0 ≡ x.0 + 2 → x.1 ≡ get_or words 0 0 → m ≢ x.0 + 2 → Queued nodes words older newer f e m → Queued nodes words' older (x ∷ newer) f e m
+queued-push : {P : Type 0} (nodes : ℕ) (words words' : List ℕ) (x : Waiter P) (older newer : List (Waiter P)) (f e m : ℕ) → get_or words' 0 0 ≡ x.0 + 2 → x.1 ≡ get_or words 0 0 → m ≢ x.0 + 2 → Queued nodes words older newer f e m → Queued nodes words' older (x ∷ newer) f e m
 queued-push nodes words words' x older newer f e m c b ne q = record {
   old_line = q.old_line;
   new_line = (c, subst (λ (y : ℕ). Line y newer m) (sym b) q.new_line);
@@ -30,7 +30,7 @@ queued-push nodes words words' x older newer f e m c b ne q = record {
 }
 
 module _ {P : Type 0} where
-  pub held-push : (nodes : ℕ) (words words' : List ℕ) (x : Waiter) (homes homes' : List (Maybe (Option P))) (at at' : ℕ → Desk P) (older newer : List Waiter) (value : P) (o : Owner P)
+  pub held-push : (nodes : ℕ) (words words' : List ℕ) (x : Waiter P) (homes homes' : List (Maybe (Option P))) (at at' : ℕ → Desk P) (older newer : List (Waiter P)) (value : P) (o : Owner P)
       → ((i : ℕ) → i ≢ x.0 → at' i ≡ at i) → get_or words' 0 0 ≡ x.0 + 2 → x.1 ≡ get_or words 0 0 → get_elem? homes' 0 ≡ get_elem? homes 0 → get_or words 0 0 ≢ 0 → owner_weight (awake x.0) o ≡ 0
       → Held nodes words homes at older newer value o → Held nodes words' homes' at' older (x ∷ newer) value o
   held-push nodes words words' x homes homes' at at' older newer value nobody elsewhere c b z held own h = absurd (held h.0)
@@ -43,34 +43,6 @@ module _ {P : Type 0} where
   ready-idle e = cc
 
 module _ {P : Type 0} (rule : Goods P → Type 0) (nodes : ℕ) where
-  pub readies : (slots id : ℕ) (m : SeatState P) (k : ℕ) → m.0.stage ≡ Idle → m.0.gone ≡ false → m.0.linked ≡ false → k ≡ 1 + 2 * m.0.number → Allows (Lawful rule nodes) slots id m k (λ _. 1) (λ _. readied (step slots k 1 0 none) m 1)
-  readies slots id m k idle live-now unlinked is s o long me _ =
-      let n : ℕ = m.0.number in
-      let w : View P = moved m.0 (Ready false) (entry m.0 SetStatus k 1) in
-      let words : List ℕ = set s.words (1 + 2 * n) 1 in
-      let at : ℕ → Desk P = desk s.words s.homes o.posted o.answered in let at' : ℕ → Desk P = desk words s.homes o.posted o.answered in
-      let low = low_number rule nodes s o id m.0 me live-now in
-      let apart = alone rule nodes s o id m.0 me live-now (ap (awake n n) idle) in
-      let wide : 1 + 2 * n < length s.words = omega (arith, o.wide) in
-      let link : (i : ℕ) → get_or words (2 + 2 * i) 0 ≡ get_or s.words (2 + 2 * i) 0 = λ i. get_or-set_other s.words (1 + 2 * n) (2 + 2 * i) 1 0 (λ e. omega arith) in
-      let central : get_or words 0 0 ≡ get_or s.words 0 0 = get_or-set_other s.words (1 + 2 * n) 0 1 0 (λ e. omega arith) in
-      let elsewhere : (i : ℕ) → i ≢ n → at' i ≡ at i = λ i ne. desk-same s.words words s.homes s.homes o.posted o.posted o.answered o.answered i
-      (get_or-set_other s.words (1 + 2 * n) (1 + 2 * i) 1 0 (λ e. ne (omega arith))) (link i) refl refl refl refl in
-      let seat : AtRest (at n) = subst (λ (g : Stage P). Seated g (at n)) idle (o.seated id m.0 me live-now) in (
-        w,
-        keeps,
-        tt,
-        subst (λ (i : ℕ). Lawful rule nodes (stepped s i 1 id m.1 w keeps)) (sym is)
-            (restaged-own rule nodes s o id m.0 w words s.homes o.posted o.answered o.owner o.older o.newer o.done o.value me live-now refl refl refl (omega arith) (λ _. refl) (length-set s.words (1 + 2 * n) 1) refl link
-            (λ g waking. omega (arith, ap (g n) idle, (waking n).0, (waking n).3 false))
-            (λ r e. absurd (cc)) (λ j u r _ there. o.owned j u r there) elsewhere
-            (seat.0, seat.1, link n ∙ o.unlinked id m.0 n me live-now unlinked (covers-own rule nodes s o m.0 live-now), get_or-set_same s.words (1 + 2 * n) 1 0 wide)
-            (waits-other at at' n elsewhere o.older apart.0 o.old_waits) (waits-other at at' n elsewhere o.newer apart.1 o.new_waits) (done-other at at' n elsewhere o.done apart.2 o.finished)
-            (held-other nodes s.words words s.homes s.homes at at' n o.older o.newer o.value o.owner elsewhere central refl apart.3 o.held)
-            (parts-same rule nodes s.views id m.0 w o.value o.posted o.answered me refl o.goods_rule)),
-        refl,
-      )
-
   pub swaps : (known : Goods P → Type 0) → ((g : Goods P) → rule g → known g) → (slots id : ℕ) (m : SeatState P) (new : ℕ) → m.0.stage ≡ Ready false → new ≡ m.0.number + 2 → Allows (Lawful rule nodes) slots id m 0 (λ _. new) (swapped known (step slots 0 new 0 none) m)
   swaps known tells slots id m new mine is s o long me _ =
       let n : ℕ = m.0.number in let found : ℕ = get_or s.words 0 0 in
@@ -118,21 +90,21 @@ module _ {P : Type 0} (rule : Goods P → Type 0) (nodes : ℕ) where
             (parts-same rule nodes s.views id m.0 w o.value o.posted o.answered me refl o.goods_rule),
         ((λ _. (o.value, refl, sound rule nodes known tells s o id m.0 me)), λ ne. absurd (ne free)),
       ))
-      (λ held. let w : View P = moved m.0 (Behind found false) (entry m.0 SwapIn 0 found) in
+      (λ held. let w : View P = moved m.0 (Behind found None) (entry m.0 SwapIn 0 found) in
       let at' : ℕ → Desk P = desk words s.homes o.posted o.answered in
       let same : (i : ℕ) → at' i ≡ at i = λ i. desk-same s.words words s.homes s.homes o.posted o.posted o.answered o.answered i (get_or-set_other s.words 0 (1 + 2 * i) (n + 2) 0 (λ e. omega arith)) (links i) refl refl refl refl in
       let now : Seated (Ready false) (at' n) = subst (Seated (Ready false)) (sym (same n)) seat in (
         w,
         keeps,
         tt,
-        restaged-own rule nodes s o id m.0 w words s.homes o.posted o.answered o.owner o.older ((n, found, false) ∷ o.newer) o.done o.value me live-now refl refl refl (omega arith) (λ _. refl) (length-set s.words 0 (n + 2)) refl links
+        restaged-own rule nodes s o id m.0 w words s.homes o.posted o.answered o.owner o.older ((n, found, None) ∷ o.newer) o.done o.value me live-now refl refl refl (omega arith) (λ _. refl) (length-set s.words 0 (n + 2)) refl links
             (λ g waking. omega (arith, ap (g n) mine, (waking n).3 false))
             (λ k e. absurd (cc)) (λ j u k _ there e. o.owned j u k there e)
             (λ i _. same i) tt
             (waits-other at at' n (λ i _. same i) o.older apart.0 o.old_waits)
             ((inl now.2, now.3, now.1.0, now.1.2, (now.0, now.1.1)), waits-other at at' n (λ i _. same i) o.newer apart.1 o.new_waits)
             (done-other at at' n (λ i _. same i) o.done apart.2 o.finished)
-            (held-push nodes s.words words (n, found, false) s.homes s.homes at at' o.older o.newer o.value o.owner (λ i _. same i) (get_or-set_same s.words 0 (n + 2) 0 wide) refl refl held apart.3 o.held)
+            (held-push nodes s.words words (n, found, None) s.homes s.homes at at' o.older o.newer o.value o.owner (λ i _. same i) (get_or-set_same s.words 0 (n + 2) 0 wide) refl refl held apart.3 o.held)
             (parts-same rule nodes s.views id m.0 w o.value o.posted o.answered me refl o.goods_rule),
         ((λ free. absurd (held free)), λ _. refl),
       )))

@@ -9,6 +9,8 @@ use Rattle.atomic_table.specs.Table.{State, step, keeps, gives, Allows, stepped}
 use Rattle.atomic_table.proofs.Lists.{exchanged, set_here, at_map}
 use Rattle.waiter_chain.specs.declared.view.View.{View}
 use Rattle.waiter_chain.specs.declared.view.Next.{Next}
+use Rattle.waiter_chain.specs.declared.view.OwnSlot.{OwnSlot}
+use Rattle.waiter_chain.specs.declared.view.OwnSlot.TheVariants.{Unused}
 use Rattle.waiter_chain.specs.declared.view.Ownership.{Ownership}
 use Rattle.waiter_chain.specs.declared.view.Entry.{Entry}
 use Rattle.waiter_chain.specs.declared.view.Stage.TheVariants.{Owns}
@@ -16,7 +18,7 @@ use Rattle.waiter_chain.specs.declared.view.Stage.{Stage}
 use Rattle.waiter_chain.specs.declared.view.Event.TheVariants.{Free, TakeChain}
 use Rattle.waiter_chain.specs.Goods.{Goods, goods, put, Pays, Runs, Ends}
 use Rattle.waiter_chain.specs.Chains.{desk, Desk, Seated, Mine, AtRest, front, line_weight, owner_weight, part_of, nobody, turn, Queued, Held, Lawful}
-use Rattle.waiter_chain.specs.Steps.{SeatState, Ranged, HasNone, ownership, passed, entry, with_steps, moved, noted, ended, freed, took, looked, counted}
+use Rattle.waiter_chain.specs.Steps.{SeatState, Ranged, HasNone, passed, retook, entry, with_steps, moved, noted, ended, freed, took, looked, counted}
 use Rattle.view_sums.specs.Sums.{term_le, set_self, map-set, same-refl}
 use Rattle.waiter_chain.proofs.Rules.{awake, has, owns-idle, owns-injective, line_empty, line_some, line_ne, put-none, desk-same, desk-central, waits-other, done-other, once, one_owner, live, low_node, low_number, Goes, restaged-own, unmoved, parts-same}
 use Rattle.waiter_chain.proofs.Polls.{ranged}
@@ -35,12 +37,12 @@ module _ {P : Type 0} (rule : Goods P → Type 0) (nodes : ℕ) where
 
     -- with no job of its own, its node is at rest
     pub owner_rest : HasNone k → AtRest (desk s.words s.homes o.posted o.answered v.number)
-    owner_rest bare = let m : Mine None (desk s.words s.homes o.posted o.answered v.number) = subst (λ (y : Option P). Mine y (desk s.words s.homes o.posted o.answered v.number)) bare.1 owner_seat.0 in
+    owner_rest bare = let m : Mine Unused (desk s.words s.homes o.posted o.answered v.number) = subst (λ (y : OwnSlot P). Mine y (desk s.words s.homes o.posted o.answered v.number)) bare.1 owner_seat.0 in
         (m.0, (owner_seat.1, m.1, owner_seat.2))
 
     -- the two lines, where it has no slots of another node
-    pub owner_lines : HasNone k → Queued nodes s.words o.older o.newer k.first k.end k.mark
-    owner_lines bare = subst (λ (y : Option (Next P)). Queued nodes s.words (front y o.older) o.newer k.first k.end k.mark) bare.0 held_by.0
+    pub owner_lines : k.next ≡ None → Queued nodes s.words o.older o.newer k.first k.end k.mark
+    owner_lines no-next = subst (λ (y : Option (Next P)). Queued nodes s.words (front y o.older) o.newer k.first k.end k.mark) no-next held_by.0
 
     -- its own number is in no line
     pub owner_apart : (has v.number o.older ≡ 0) × (has v.number o.newer ≡ 0) × (has v.number o.done ≡ 0)
@@ -64,20 +66,20 @@ module _ {P : Type 0} (rule : Goods P → Type 0) (nodes : ℕ) where
       (at_map part_of s.views id v me) (subst (λ x. Runs relates x ran now) (held_by s o id v k me mine).4 runs) (subst (λ (y : Maybe P). Pays y ran v.quota q) (sym rest.1.1) (omega arith)) rest.1.2)
 
   -- an owner sees that others came, and changes no word
-  pub passes : (s : State (Option P) (View P)) (o : Lawful rule nodes s) (id : ℕ) (m : SeatState P) (k : Ownership P) (i : ℕ) (steps : List Entry) → get_elem? s.views id ≡ some m.0 → m.0.stage ≡ Owns k → HasNone k → get_or s.words 0 0 ≢ k.mark
+  pub passes : (s : State (Option P) (View P)) (o : Lawful rule nodes s) (id : ℕ) (m : SeatState P) (k : Ownership P) (i : ℕ) (steps : List Entry) → get_elem? s.views id ≡ some m.0 → m.0.stage ≡ Owns k → get_or s.words 0 0 ≢ k.mark
       → Lawful rule nodes (stepped s i (get_or s.words i 0) id m.1 (with_steps m.0 (Owns (passed k)) steps) keeps)
-  passes s o id m k i steps me mine bare others =
+  passes s o id m k i steps me mine others =
       let n : ℕ = m.0.number in let w : View P = with_steps m.0 (Owns (passed k)) steps in let h = held_by s o id m.0 k me mine in
       subst (λ (ws : List ℕ). Lawful rule nodes record { words = ws; homes = s.homes; views = set s.views id w }) (sym (set_self s.words i))
       (restaged-own rule nodes s o id m.0 w s.words s.homes o.posted o.answered (turn n (passed k)) o.older o.newer o.done o.value me (live-owner s o id m.0 k me mine) refl refl refl (omega arith) (λ _. refl) refl refl (λ _. refl)
-      (λ g waking. omega (arith, ap (g n) mine, ap (owner_weight g) (o.owned id m.0 k me mine), weigh_bare g n k bare, weigh_bare g n (passed k) bare))
+      (λ g waking. omega (arith, ap (g n) mine, ap (owner_weight g) (o.owned id m.0 k me mine)))
       (λ j z. ap (turn n) (owns-injective _ _ z)) (λ j u l ne at z. absurd (one_owner rule nodes s o id j m.0 u k l ne me at mine z))
       (λ _ _. refl) (owner_seat s o id m.0 k me mine) o.old_waits o.new_waits o.finished
       (h.0, h.1, (λ _. line_some (get_or s.words 0 0) k.mark o.newer h.0.new_line others), h.3, h.4, h.5, h.6)
       (parts-same rule nodes s.views id m.0 w o.value o.posted o.answered me refl o.goods_rule))
 
-  pub looks : (slots id : ℕ) (m : SeatState P) (k : Ownership P) → m.0.stage ≡ Owns k → HasNone k → Allows (Lawful rule nodes) slots id m 0 (λ x. x) (looked (step slots 0 0 0 none) m)
-  looks slots id m k mine bare s o long me _ =
+  pub looks : (slots id : ℕ) (m : SeatState P) (k : Ownership P) → m.0.stage ≡ Owns k → Allows (Lawful rule nodes) slots id m 0 (λ x. x) (looked (step slots 0 0 0 none) m)
+  looks slots id m k mine s o long me _ =
       let c : ℕ = get_or s.words 0 0 in
       dite (ℕ_discrete c k.mark)
       (λ e. (
@@ -91,27 +93,27 @@ module _ {P : Type 0} (rule : Goods P → Type 0) (nodes : ℕ) where
         noted m.0 (Owns (passed k)),
         keeps,
         tt,
-        passes s o id m k 0 m.0.steps me mine bare ne,
+        passes s o id m k 0 m.0.steps me mine ne,
         λ l z. ((λ e. absurd (ne (e ∙ ap (λ (x : Ownership P). x.mark) (owns-injective _ _ (sym z ∙ mine))))), λ _. ap (λ (x : Ownership P). (noted m.0 (Owns (passed x)), m.1)) (owns-injective _ _ (sym mine ∙ z))),
       ))
 
-  pub takes-line : (slots id : ℕ) (m : SeatState P) (k : Ownership P) → m.0.stage ≡ Owns k → HasNone k → k.first ≡ k.end → k.others_came ≡ true → Allows (Lawful rule nodes) slots id m 0 (λ _. 1) (took (step slots 0 1 0 none) m)
-  takes-line slots id m k mine bare none-left others_came s o long me _ =
-      let n : ℕ = m.0.number in let c : ℕ = get_or s.words 0 0 in let h = held_by s o id m.0 k me mine in let q = owner_lines s o id m.0 k me mine bare in
-      let r : Ownership P = ownership c k.mark 1 false k.value in
+  pub takes-line : (slots id : ℕ) (m : SeatState P) (k : Ownership P) → m.0.stage ≡ Owns k → k.next ≡ None → k.first ≡ k.end → k.others_came ≡ true → Allows (Lawful rule nodes) slots id m 0 (λ _. 1) (took (step slots 0 1 0 none) m)
+  takes-line slots id m k mine no-next none-left others_came s o long me _ =
+      let n : ℕ = m.0.number in let c : ℕ = get_or s.words 0 0 in let h = held_by s o id m.0 k me mine in let q = owner_lines s o id m.0 k me mine no-next in
+      let r : Ownership P = retook k c in
       let w : View P = moved m.0 (Owns r) (entry m.0 TakeChain 0 c) in
       let words : List ℕ = set s.words 0 1 in
       let at : ℕ → Desk P = desk s.words s.homes o.posted o.answered in let at' : ℕ → Desk P = desk words s.homes o.posted o.answered in
       let links : (i : ℕ) → get_or words (2 + 2 * i) 0 ≡ get_or s.words (2 + 2 * i) 0 = λ i. get_or-set_other s.words 0 (2 + 2 * i) 1 0 (λ e. omega arith) in
       let same : (i : ℕ) → at' i ≡ at i = λ i. desk-same s.words words s.homes s.homes o.posted o.posted o.answered o.answered i (get_or-set_other s.words 0 (1 + 2 * i) 1 0 (λ e. omega arith)) (links i) refl refl refl refl in
-      let rest : AtRest (at' n) = subst AtRest (sym (same n)) (owner_rest s o id m.0 k me mine bare) in
+      let seat : Seated (Owns r) (at' n) = subst (Seated (Owns r)) (sym (same n)) (owner_seat s o id m.0 k me mine) in
       let mates = owner_apart s o id m.0 k me mine in
       let empty = line_empty k.first k.end o.older q.old_line q.past_end none-left in
       let apart : c ≢ k.mark = line_ne c k.mark o.newer q.new_line q.past_mark (h.2 others_came) in
       let next : Lawful rule nodes (stepped s 0 1 id m.1 w keeps) = restaged-own rule nodes s o id m.0 w words s.homes o.posted o.answered (turn n r) o.newer [] o.done o.value me (live-owner s o id m.0 k me mine) refl refl refl (omega arith) (λ _. refl) (length-set s.words 0 1) refl links
-      (λ g waking. omega (arith, ap (g n) mine, ap (owner_weight g) (o.owned id m.0 k me mine), weigh_bare g n k bare, ap (line_weight g) empty))
+      (λ g waking. omega (arith, ap (g n) mine, ap (owner_weight g) (o.owned id m.0 k me mine), ap (λ (y : Option (Next P)). line_weight g (front y [])) no-next, ap (line_weight g) empty))
       (λ j z. ap (turn n) (owns-injective _ _ z)) (λ j u l ne there z. absurd (one_owner rule nodes s o id j m.0 u k l ne me there mine z))
-      (λ i _. same i) ((rest.0, rest.1.1), rest.1.0, rest.1.2)
+      (λ i _. same i) seat
       (waits-other at at' n (λ i _. same i) o.newer mates.1 o.new_waits) tt (done-other at at' n (λ i _. same i) o.done mates.2 o.finished) (
         record {
           old_line = q.new_line;
@@ -135,7 +137,7 @@ module _ {P : Type 0} (rule : Goods P → Type 0) (nodes : ℕ) where
         keeps,
         tt,
         next,
-        λ l z. let e = owns-injective k l (sym mine ∙ z) in subst (λ (x : Ownership P). ◌≡◌ {A = SeatState P} (w, m.1) (moved m.0 (Owns (ownership c x.mark 1 false x.value)) (entry m.0 TakeChain 0 c), m.1) × (c ≢ x.mark) × Ranged slots c x.mark) e
+        λ l z. let e = owns-injective k l (sym mine ∙ z) in subst (λ (x : Ownership P). ◌≡◌ {A = SeatState P} (w, m.1) (moved m.0 (Owns (retook x c)) (entry m.0 TakeChain 0 c), m.1) × (c ≢ x.mark) × Ranged slots c x.mark) e
             (refl, apart, ranged nodes slots c k.mark o.newer (sym long ∙ o.long) (λ i y. low_node rule nodes s o i (omega arith)) q.new_line q.low_mark),
       )
 
@@ -143,7 +145,7 @@ module _ {P : Type 0} (rule : Goods P → Type 0) (nodes : ℕ) where
       → length ran ≤ m.0.quota → Runs relates k.value ran now
       → Allows (Lawful rule nodes) slots id m 0 (λ x. either (eqb x mark) 0 x) (freed ran (step slots 0 mark 0 none) m)
   frees relates law slots id m k ran now mark mine bare none-left is hand enough runs s o long me _ =
-      let n : ℕ = m.0.number in let c : ℕ = get_or s.words 0 0 in let q = owner_lines s o id m.0 k me mine bare in
+      let n : ℕ = m.0.number in let c : ℕ = get_or s.words 0 0 in let q = owner_lines s o id m.0 k me mine bare.0 in
       exchanged c mark 0 (Goes rule nodes s 0 id m (freed ran (step slots 0 mark 0 none) m))
       (λ hit.
       let w : View P = ended m.0 ran (entry m.0 Free 0 c) in
@@ -172,7 +174,7 @@ module _ {P : Type 0} (rule : Goods P → Type 0) (nodes : ℕ) where
         moved m.0 (Owns (passed k)) (entry m.0 Free 0 c),
         keeps,
         tt,
-        passes s o id m k 0 (m.0.steps ++ entry m.0 Free 0 c ∷ []) me mine bare (λ e. miss (e ∙ sym is)),
+        passes s o id m k 0 (m.0.steps ++ entry m.0 Free 0 c ∷ []) me mine (λ e. miss (e ∙ sym is)),
         ((λ hit. absurd (miss hit)), λ _ l z. ap (λ (x : Ownership P). (moved m.0 (Owns (passed x)) (entry m.0 Free 0 c), m.1)) (owns-injective _ _ (sym mine ∙ z))),
       ))
 

@@ -1,5 +1,5 @@
 -- The step by which an owner makes the next node the owner, whether that waits with a job or without one.
-use Rattle.std.proofs.Common.{◌≡◌, ◌≢◌, ℕ, ◌+◌, ◌-◌, ◌*◌, ◌<◌, ◌≤◌, List, [], ◌∷◌, length, set, get_or, length-set, get_or-set_same, get_or-set_other, Option, Some, Bool, true, false, refl, sym, ap, ◌∙◌, subst, arith}
+use Rattle.std.proofs.Common.{◌≡◌, ◌≢◌, ℕ, ◌+◌, ◌-◌, ◌*◌, ◌<◌, ◌≤◌, List, [], ◌∷◌, length, set, get_or, length-set, get_or-set_same, get_or-set_other, Option, Some, None, false, refl, sym, ap, ◌∙◌, subst, arith}
 use mathlib.Core.Option.{some, none, Option as Maybe}
 use lib.ListN.{get_elem?}
 use Rattle.atomic_table.specs.Table.{State, step, gives, Allows, stepped}
@@ -10,52 +10,55 @@ use Rattle.waiter_chain.specs.declared.view.Stage.{Stage}
 use Rattle.waiter_chain.specs.declared.view.Stage.TheVariants.{Idle, Holding, Cleared, Ready, Behind, Owns, Done}
 use Rattle.waiter_chain.specs.declared.view.Event.TheVariants.{Grant}
 use Rattle.waiter_chain.specs.Goods.{Goods, put, Runs, Ends}
-use Rattle.waiter_chain.specs.Chains.{Waiter, Line, desk, Desk, Seated, AtRest, Keeps, Waits, AllWait, weigh, line_weight, owner_weight, granted, named, Lawful}
+use Rattle.waiter_chain.specs.Chains.{Waiter, Line, desk, Desk, Seated, AtRest, Keeps, Noted, Waits, AllWait, weigh, line_weight, owner_weight, granted, named, Lawful}
 use Rattle.waiter_chain.specs.Steps.{SeatState, HasNone, entry, ended, handed}
 use Rattle.view_sums.specs.Sums.{same-refl}
-use Rattle.waiter_chain.proofs.Rules.{queued-words, put-none, desk-same, waits-other, done-other, awake, has, quiet, covers-own, covers_awake, once, low_node, one_owner, restaged}
+use Rattle.waiter_chain.proofs.Rules.{queued-words, put-none, noted-same, desk-same, waits-other, done-other, awake, has, quiet, covers-own, covers_awake, once, low_node, one_owner, restaged}
 use Rattle.waiter_chain.proofs.Frees.{owner_lines, owner_rest, owner_apart, live-owner, weigh_bare, put-back}
 
 -- a line that is not empty, cut behind its head
-pub line_cut : (v w : ℕ) (xs : List Waiter) → Line v xs w → v ≢ w → (x : Waiter) × (ys : List Waiter) × (xs ≡ x ∷ ys) × (v ≡ x.0 + 2) × Line x.1 ys w
+pub line_cut : {P : Type 0} (v w : ℕ) (xs : List (Waiter P)) → Line v xs w → v ≢ w → (x : Waiter P) × (ys : List (Waiter P)) × (xs ≡ x ∷ ys) × (v ≡ x.0 + 2) × Line x.1 ys w
 line_cut v w [] h ne = absurd (ne h)
 line_cut v w (x ∷ xs) h ne = (x, xs, refl, h.0, h.1)
 
 -- a desk with another status
-abbrev with_status : {P : Type 0} → ℕ → Desk P → Desk P
+abbrev pub with_status : {P : Type 0} → ℕ → Desk P → Desk P
 with_status x d = record { status = x; link = d.link; job = d.job; answer = d.answer; posted = d.posted; answered = d.answered }
 
 -- what lies in a waiting node's job slot does not hang on its status
-keeps-status : {P : Type 0} (j : Bool) (x : ℕ) (d : Desk P) → Keeps j (with_status x d) → Keeps j d
-keeps-status true x d h = h
-keeps-status false x d h = h
+pub keeps-status : {P : Type 0} (j : Option P) (x : ℕ) (d : Desk P) → Keeps j (with_status x d) → Keeps j d
+keeps-status (Some j) x d h = h
+keeps-status None x d h = h
 
 module _ {P : Type 0} (rule : Goods P → Type 0) (nodes : ℕ) where
-  -- another pass with the number of a node of the older line, or of the one whose slots the owner has, waits itself
-  pub waits_there : (s : State (Option P) (View P)) (o : Lawful rule nodes s) (id : ℕ) (v : View P) (k : Ownership P) (n : ℕ) (at : Desk P) → get_elem? s.views id ≡ some v → v.stage ≡ Owns k → 0 < has n o.older + owner_weight (awake n) o.owner
-      → (j : ℕ) (u : View P) → j ≢ id → get_elem? s.views j ≡ some u → u.gone ≡ false → u.number ≡ n → Seated u.stage at
-  waits_there s o id v k n at me mine there j u ne at-j live-u is = by_stage u.stage refl
+  -- another pass with the number of a node of the older line, or of the one whose slots the owner has, waits itself: its note of its job still holds
+  pub waits_there : (s : State (Option P) (View P)) (o : Lawful rule nodes s) (id : ℕ) (v : View P) (k : Ownership P) (n : ℕ) (at' : ℕ → Desk P) → get_elem? s.views id ≡ some v → v.stage ≡ Owns k → 0 < has n o.older + owner_weight (awake n) o.owner
+      → ((h : Option P) → Noted h (desk s.words s.homes o.posted o.answered n) → Noted h (at' n))
+      → (j : ℕ) (u : View P) → j ≢ id → get_elem? s.views j ≡ some u → u.gone ≡ false → u.number ≡ n → Seated u.stage (at' u.number)
+  waits_there s o id v k n at' me mine there notes j u ne at-j live-u is = by_stage u.stage refl
     where
       still : weigh (awake u.number) u ≡ 0 → ⊥
       still q = let t = quiet rule nodes s o j u u.number at-j (covers-own rule nodes s o u live-u) q in
           let a : has u.number o.older ≡ has n o.older = ap (λ (x : ℕ). has x o.older) is in
           let b : owner_weight {P = P} (awake u.number) o.owner ≡ owner_weight {P = P} (awake n) o.owner = ap (λ (x : ℕ). owner_weight {P = P} (awake x) o.owner) is in omega (arith, t.0, t.3, a, b, there)
 
-      by_stage : (g : Stage P) → u.stage ≡ g → Seated g at
+      by_stage : (g : Stage P) → u.stage ≡ g → Seated g (at' u.number)
       by_stage Idle e = absurd (still (ap (awake u.number u.number) e))
       by_stage Holding e = absurd (still (ap (awake u.number u.number) e))
       by_stage (Cleared h) e = absurd (still (ap (awake u.number u.number) e))
       by_stage (Ready h) e = absurd (still (ap (awake u.number u.number) e))
-      by_stage (Behind b h) e = tt
+      by_stage (Behind b h) e = let at : ℕ → Desk P = desk s.words s.homes o.posted o.answered in
+          let before : Noted h (at u.number) = subst (λ (g : Stage P). Seated g (at u.number)) e (o.seated j u at-j live-u) in
+          subst (λ (i : ℕ). Noted h (at' i)) (sym is) (notes h (subst (λ (i : ℕ). Noted h (at i)) is before))
       by_stage (Owns l) e = absurd (one_owner rule nodes s o id j v u k l ne me at-j mine e)
-      by_stage (Done a) e = absurd (still (ap (awake u.number u.number) e))
+      by_stage (Done i a) e = absurd (still (ap (awake u.number u.number) e))
 
   pub grants : (relates : P → P → P → P → Type 0) → Ends rule nodes relates → (slots id : ℕ) (m : SeatState P) (k : Ownership P) (ran : List (P × P)) (now : P) (i new : ℕ) → m.0.stage ≡ Owns k → HasNone k → k.first ≢ k.end → i ≡ 1 + 2 * (k.first - 2) → new ≡ k.end + 4 → m.1 ≡ (0, Some now) ∷ []
       → length ran ≤ m.0.quota → Runs relates k.value ran now
       → Allows (Lawful rule nodes) slots id m i (λ _. new) (λ _. handed ran (step slots i new 0 none) m new)
   grants relates law slots id m k ran now i new mine bare some-left at-word what hand enough runs s o long me _ =
-      let n : ℕ = m.0.number in let q = owner_lines rule nodes s o id m.0 k me mine bare in
-      let cut = line_cut k.first k.end o.older q.old_line some-left in let x : ℕ = cut.0.0 in let b : ℕ = cut.0.1 in let j = cut.0.2 in let ys : List Waiter = cut.1 in let is : o.older ≡ (x, b, j) ∷ ys = cut.2 in
+      let n : ℕ = m.0.number in let q = owner_lines rule nodes s o id m.0 k me mine bare.0 in
+      let cut = line_cut k.first k.end o.older q.old_line some-left in let x : ℕ = cut.0.0 in let b : ℕ = cut.0.1 in let j = cut.0.2 in let ys : List (Waiter P) = cut.1 in let is : o.older ≡ (x, b, j) ∷ ys = cut.2 in
       let one : k.mark ≡ 1 = q.taken (omega (arith, ap length is)) in
       let counted = once rule nodes s o x in let here = same-refl x in let split : has x o.older ≡ has x ((x, b, j) ∷ ys) = ap (has x) is in
       let not-old : has x ys ≡ 0 = omega arith in let not-new : has x o.newer ≡ 0 = omega arith in let not-done : has x o.done ≡ 0 = omega arith in
@@ -93,7 +96,7 @@ module _ {P : Type 0} (rule : Goods P → Type 0) (nodes : ℕ) where
             (λ g waking. omega (arith, ap (g n) mine, ap (owner_weight g) (o.owned id m.0 k me mine), weigh_bare rule nodes g n k bare, ap (line_weight g) is, (waking n).0))
             (λ l z. absurd (cc)) (λ l u r ne there z. absurd (one_owner rule nodes s o id l m.0 u k r ne me there mine z))
             elsewhere (subst AtRest (sym (elsewhere n apart)) rested)
-            (λ l u ne there live-u z. waits_there s o id m.0 k x (at' u.number) me mine (omega arith) l u ne there live-u z)
+            (λ l u ne there live-u z. waits_there s o id m.0 k x at' me mine (omega arith) (λ h. noted-same h (at x) (at' x) (put-none o.posted n x rested.1.1) refl) l u ne there live-u z)
             (covers_awake rule nodes s o x (omega arith))
             (waits-other at at' x elsewhere ys not-old old.1) (waits-other at at' x elsewhere o.newer not-new o.new_waits) (done-other at at' x elsewhere o.done not-done o.finished) (
               record {

@@ -1,7 +1,7 @@
 -- What stays as an owner goes on with a chain, so that its ownership may still end.
 use Rattle.std.proofs.Common.{Some, ◌≡◌, ℕ, ◌+◌, ◌≤◌, List, [], ◌∷◌, ◌++◌, length, false, refl, sym, ap, ◌∙◌, subst, ⊎_elim, append_assoc, arith}
 use Rattle.waiter_chain.specs.Goods.{Goods, Runs}
-use Rattle.waiter_chain.specs.Steps.{SeatState, ownership, entry}
+use Rattle.waiter_chain.specs.Steps.{SeatState, ownership, retook, entry}
 use Rattle.waiter_chain.specs.Calls.{HasTurn, Won, MayEnd, FollowsAs, SawOthers}
 use Rattle.waiter_chain.specs.declared.view.Entry.{Entry}
 use Rattle.waiter_chain.specs.declared.view.Ownership.{Ownership}
@@ -52,7 +52,7 @@ module _ {P : Type 0} where
   still_ends relates slots ran t u x m l f e = ⊎_elim
       (λ s. subst (MayEnd relates ran) (sym s.2) e)
       (λ s. let k = s.1.0 in let a = (waits-stay slots ran t u x m l f).0 in let took = s.1.2.2 in let same : e.0.value ≡ k.value = ap (λ (z : Ownership P). z.value) (owns-injective e.0 k (sym e.2 ∙ s.1.1)) in
-      (ownership u.first k.mark 1 false k.value, e.1, ap (λ (z : SeatState P). z.0.stage) took.2, a.0 ∙ e.3, omega (arith, e.4, a.4), subst (λ z. Runs relates z ran e.1) same e.5))
+      (retook k u.first, e.1, ap (λ (z : SeatState P). z.0.stage) took.2, a.0 ∙ e.3, omega (arith, e.4, a.4), subst (λ z. Runs relates z ran e.1) same e.5))
       f.3
 
   -- what a pass that has just become the owner may do

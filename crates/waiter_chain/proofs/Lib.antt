@@ -16,3 +16,9 @@ pub mod Posts
 pub mod Ends
 pub mod Clears
 pub mod Takes
+pub mod Settles
+pub mod Entering
+pub mod Shown
+pub mod JobPolls
+pub mod Gives
+pub mod Helps

@@ -1,15 +1,24 @@
 -- What contracts say of an owner, from what the steps tell.
-use Rattle.std.proofs.Common.{◌≡◌, ℕ, List, [], ◌∷◌, Option, Some, false, sym, ap, ◌∙◌, subst, inr, ⊎_elim}
+use Rattle.std.proofs.Common.{◌≡◌, ◌≢◌, ℕ, ◌+◌, ◌-◌, ◌*◌, List, [], ◌∷◌, ◌++◌, length, Option, Some, None, Bool, true, false, refl, sym, ap, ◌∙◌, subst, inr, ⊎_elim}
+use mathlib.Core.Option.{none}
+use Rattle.atomic_table.specs.Table.{step, rest}
+use Rattle.waiter_chain.specs.declared.view.Next.{Next}
+use Rattle.waiter_chain.specs.declared.view.OwnSlot.{OwnSlot}
+use Rattle.waiter_chain.specs.declared.view.OwnSlot.TheVariants.{Unused}
 use Rattle.waiter_chain.specs.declared.view.Ownership.{Ownership}
 use Rattle.waiter_chain.specs.declared.view.Entry.{Entry}
-use Rattle.waiter_chain.specs.declared.view.Stage.TheVariants.{Owns}
-use Rattle.waiter_chain.specs.Steps.{SeatState, Wins, Ranged, ownership, passed, moved}
-use Rattle.waiter_chain.specs.Goods.{Goods}
-use Rattle.waiter_chain.specs.Calls.{Won, OwnsBy, SawOthers, TookAs, FollowsAs}
+use Rattle.waiter_chain.specs.declared.view.Stage.TheVariants.{Cleared, Ready, Owns}
+use Rattle.waiter_chain.specs.Steps.{SeatState, SoundJob, Wins, Ranged, ownership, ownership_with, passed, retook, with_next, run_slot, settled_notes, settled, served, with_steps, paid, moved, stays, entry, posting, link_seen, job_done}
+use Rattle.waiter_chain.specs.Goods.{Goods, part}
+use Rattle.waiter_chain.specs.Chains.{entering}
+use Rattle.waiter_chain.specs.Calls.{Won, WonWith, OwnsBy, SawOthers, TookAs, FollowsAs, WaitsBehind, readied_state, EnteredAs, LinkSeen, MayServe, Served}
 use Rattle.waiter_chain.specs.declared.turn.Turn.{Turn}
+use Rattle.waiter_chain.specs.declared.turn.Kind.{Kind}
+use Rattle.waiter_chain.specs.declared.turn.Kind.TheVariants as kind
+use Rattle.waiter_chain.specs.declared.turn.Entered.TheVariants as entered
 use Rattle.waiter_chain.specs.declared.turn.Follow.{Follow}
 use Rattle.waiter_chain.specs.declared.turn.Follow.TheVariants as follow
-use Rattle.waiter_chain.specs.declared.view.Event.TheVariants.{TakeChain}
+use Rattle.waiter_chain.specs.declared.view.Event.TheVariants.{TakeChain, StoreLink, SetStatus, SwapIn, LoadLink, Serve}
 use Rattle.waiter_chain.proofs.Rules.{owns-injective}
 
 module _ {P : Type 0} where
@@ -29,7 +38,7 @@ module _ {P : Type 0} where
   pub follows : (slots : ℕ) (ran : List (P × P)) (old : Turn) (m l n : SeatState P) (k : Ownership P) (f : Follow) → old.first ≡ old.end → m.0.stage ≡ Owns k → k.mark ≡ old.mark → SawOthers m l k → TookAs slots old.mark l n f → FollowsAs slots ran old m n f
   follows slots ran old m l n k follow.Free empty mine mark others w = absurd w
   follows slots ran old m l n k (follow.Waits t node) empty mine mark others w =
-      let s = saw m l k others in let e = owns-injective w.5.0 (passed k) (sym w.5.1 ∙ s.0) in let value : w.5.0.value ≡ k.value = ap (λ (x : Ownership P). x.value) e in (
+      let s = saw m l k others in let e = owns-injective w.5.0 (passed k) (sym w.5.1 ∙ s.0) in let took : retook w.5.0 t.first ≡ retook k t.first = ap (λ (x : Ownership P). retook x t.first) e in (
         w.0,
         w.1,
         w.2,
@@ -44,9 +53,82 @@ module _ {P : Type 0} where
               (
                 l,
                 others,
-                w.5.2 ∙ (λ i. (moved l.0 (Owns (ownership t.first (sym mark i) 1 false (value i))) record { number = s.2 i; event = TakeChain; place = 0; word = t.first }, s.1 i)),
+                w.5.2 ∙ (λ i. (moved l.0 (Owns (took i)) record { number = s.2 i; event = TakeChain; place = 0; word = t.first }, s.1 i)),
               ),
             ),
           ),
         ),
       )
+
+  -- the two stores of a pass that is to enter
+  pub readied_told : (b : Bool) (p q kind : ℕ) (m l n : SeatState P) → p ≡ 2 + 2 * m.0.number → q ≡ 1 + 2 * m.0.number → kind ≡ entering b
+      → l ≡ (moved m.0 (Cleared b) (entry m.0 StoreLink p 0), m.1) → n ≡ (moved l.0 (Ready b) (entry l.0 SetStatus q kind), l.1) → n ≡ readied_state b m
+  readied_told b p q kind m l n a c e h i = i ∙ ap (λ (z : SeatState P). (moved z.0 (Ready b) (entry z.0 SetStatus q kind), z.1)) h
+      ∙ (λ t. (moved (moved m.0 (Cleared b) (entry m.0 StoreLink (a t) 0)) (Ready b) (entry m.0 SetStatus (c t) (e t)), m.1))
+
+  -- who entered and is behind another waits
+  pub entered_behind : (rule : Goods P → Type 0) (slots : ℕ) (k : Kind) (b : ℕ) (m n : SeatState P) → EnteredAs rule slots k b m n entered.Behind → WaitsBehind b n
+  entered_behind rule slots kind.Plain b m n h = (None, ap (λ (x : SeatState P). x.0.stage) h.1, ap (λ (x : SeatState P). x.1) h.1)
+  entered_behind rule slots kind.WithJob b m n h = (Some h.1.0, ap (λ (x : SeatState P). x.0.stage) h.1.2, ap (λ (x : SeatState P). x.1) h.1.2)
+
+  -- the swap of a pass that posts a job
+  pub posted_wins : (known : Goods P → Type 0) (slots place r : ℕ) (t : Turn) (m l n : SeatState P) (job : P) → l ≡ readied_state true m → m.1 ≡ (1 + 2 * m.0.number, Some job) ∷ [] → r ≡ 0 → t.first ≡ place → Ranged slots t.first t.end
+      → posting known (step slots 0 place 0 none) l r n → WonWith known slots t (readied_state true m) (entry m.0 SwapIn 0 0) n
+  posted_wins known slots place r t m l n job is hand zero-found first ranged p =
+      let a : SeatState P = readied_state true m in
+      let f = (subst (λ (x : SeatState P). posting known (step slots 0 place 0 none) x r n) is p job hand).0 zero-found in
+      (f.0, job, hand, f.1 ∙ (λ i. (paid a.0 (a.0.quota - 1) (Owns (ownership_with (sym first i) job f.0)) (entry a.0 SwapIn 0 (zero-found i)), (0, Some f.0) ∷ a.1)), ranged, f.2)
+
+  pub posted_waits : (known : Goods P → Type 0) (slots place r : ℕ) (m l n : SeatState P) (job : P) → l ≡ readied_state true m → m.1 ≡ (1 + 2 * m.0.number, Some job) ∷ [] → r ≢ 0
+      → posting known (step slots 0 place 0 none) l r n → EnteredAs known slots kind.WithJob r m n entered.Behind
+  posted_waits known slots place r m l n job is hand some-found p = (some-found, (job, hand, (subst (λ (x : SeatState P). posting known (step slots 0 place 0 none) x r n) is p job hand).1 some-found))
+
+  -- what a load of the next node's link tells, by the turn
+  pub link_told : (known : Goods P → Type 0) (slots : ℕ) (t : Turn) (hand : Option P) (m n : SeatState P) (k : Ownership P) (r place : ℕ) → place ≡ 2 + 2 * (t.first - 2) → m.0.stage ≡ Owns k → OwnsBy slots t hand m k → link_seen known (step slots place 0 0 none) m r n → LinkSeen known (t.first - 2) m n r
+  link_told known slots t hand m n k r place is mine o s =
+      let a = owns_at slots t hand m s.0 k s.1 o in let first : s.0.first - 2 ≡ t.first - 2 = ap (λ (x : ℕ). x - 2) a.1 in (
+        (λ z. s.2 z ∙ ap (λ (x : ℕ). stays m (entry m.0 LoadLink x r)) is),
+        λ ne. (
+            let f = s.3 ne in (
+              s.0,
+              f.0,
+              f.1,
+              s.1,
+              f.2 ∙ (λ i. (moved m.0 (Owns (with_next s.0 (first i) r f.0)) (entry m.0 LoadLink (is i) r), (2 + 2 * first i, f.1) ∷ (1 + 2 * first i, Some f.0) ∷ m.1)),
+              subst (λ (x : ℕ). SoundJob known s.0.value (part m.0.quota m.0.own) x f.0) first f.3,
+            )
+            ),
+      )
+
+  -- what the store of 3 tells, by the turn
+  pub served_told : (relates : P → P → P → P → Type 0) (slots : ℕ) (ran : List (P × P)) (t u : Turn) (link place : ℕ) (m n : SeatState P) → place ≡ 1 + 2 * (t.first - 2) → u.first ≡ link → u.end ≡ t.end → u.mark ≡ t.mark
+      → MayServe relates slots ran t link m → job_done ran (step slots place 3 0 none) m 3 n → Served slots ran t link m n u
+  served_told relates slots ran t u link place m n is first end mark e s =
+      let k : Ownership P = s.0 in let x : Next P = s.1 in let same : e.0 ≡ k = owns-injective e.0 k (sym e.6 ∙ s.4) in
+      let behind : x.behind ≡ link = ap (λ (y : Option (Next P)). behind_in y link) (sym s.5 ∙ sym (ap (λ (y : Ownership P). y.next) same) ∙ e.10) in
+      let hand : (0, Some s.2) ∷ s.3 ≡ (0, Some e.4) ∷ [] = sym s.6 ∙ ap (λ (c : List (ℕ × Option P)). rest (rest c)) e.12 in
+      let none-left : s.3 ≡ [] = ap (λ (c : List (ℕ × Option P)). rest c) hand in
+      let state = s.8 ∙ (λ i. (with_steps (settled m.0 (m.0.quota - length ran) ran (settled_notes k s.2)) (Owns (served (settled_notes k s.2) (behind i) s.2)) (m.0.steps ++ entry m.0 Serve (is i) 3 ∷ []), (0, Some s.2) ∷ none-left i)) in
+      let kend : k.end ≡ t.end = ap (λ (y : Ownership P). y.end) (sym same) ∙ e.8 in let kmark : k.mark ≡ t.mark = ap (λ (y : Ownership P). y.mark) (sym same) ∙ e.9 in let own : k.mine ≡ Unused = ap (λ (y : Ownership P). y.mine) (sym same) ∙ e.11 in (
+        first,
+        end,
+        mark,
+        (
+          Some s.2,
+          served (settled_notes k s.2) link s.2,
+          (
+            ap (λ (z : SeatState P). z.0.stage) state,
+            sym first,
+            kend ∙ sym end,
+            kmark ∙ sym mark,
+            ap (λ (z : SeatState P). z.1) state,
+            subst (λ (y : ℕ × ℕ). Ranged slots y.0 y.1) (λ i. ((behind ∙ sym first) i, (kend ∙ sym end) i)) s.7,
+            (refl, ap (λ (y : OwnSlot P). run_slot y) own),
+          ),
+        ),
+        (k, s.2, s.4, s.6 ∙ (λ i. (0, Some s.2) ∷ none-left i), state),
+      )
+    where
+      behind_in : Option (Next P) → ℕ → ℕ
+      behind_in None d = d
+      behind_in (Some y) d = y.behind

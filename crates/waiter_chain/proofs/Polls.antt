@@ -1,5 +1,5 @@
 -- The step by which a node that waits with no job reads its own status.
-use Rattle.std.proofs.Common.{◌≡◌, ◌≢◌, ◌⊎◌, ℕ, ◌+◌, ◌-◌, ◌*◌, ◌<◌, ◌≤◌, List, [], ◌∷◌, ◌++◌, set, get_or, length-set, Option, Some, None, Bool, true, false, true≢false, refl, sym, ap, ◌∙◌, subst, inl, inr, ⊎_elim, arith, cond, eq-eqb, ne_eqb}
+use Rattle.std.proofs.Common.{◌≡◌, ◌≢◌, ◌⊎◌, ℕ, ◌+◌, ◌-◌, ◌*◌, ◌<◌, ◌≤◌, List, [], ◌∷◌, ◌++◌, set, get_or, length-set, Option, Some, None, false, true≢false, refl, sym, ap, ◌∙◌, subst, inl, inr, ⊎_elim, arith, cond, eq-eqb, ne_eqb}
 use mathlib.Core.Option.{some, none, Option as Maybe}
 use mathlib.Core.Logic.{dite}
 use native.Mathlib.Decide.{ℕ_discrete, dec_lt}
@@ -16,51 +16,50 @@ use Rattle.waiter_chain.specs.Goods.{part, Goods}
 use Rattle.waiter_chain.specs.Chains.{Waiter, Line, desk, Desk, kind, AllWait, AllDone, front, Weight, weigh, line_weight, Owner, owner_weight, nobody, turn, granted, Queued, Held, Lawful}
 use Rattle.waiter_chain.specs.Steps.{Sound, SeatState, Ranged, ownership, entry, moved, polled}
 use Rattle.view_sums.specs.Sums.{same, same-refl, same-pos, term_le, set_self}
-use Rattle.waiter_chain.proofs.Rules.{awake, once, sound, owns-injective, spot, has, bool_cases, desk-same, waits-other, done-other, live, low_node, restaged-own, unmoved, parts-same}
+use Rattle.waiter_chain.proofs.Rules.{awake, once, sound, owns-injective, spot, has, desk-same, waits-other, done-other, live, low_node, restaged-own, unmoved, parts-same}
 
 -- the head of a line that is not empty
-pub line_head : (v w : ℕ) (xs : List Waiter) → Line v xs w → v ≢ w → (n : ℕ) × (v ≡ n + 2) × (0 < has n xs)
+pub line_head : {P : Type 0} (v w : ℕ) (xs : List (Waiter P)) → Line v xs w → v ≢ w → (n : ℕ) × (v ≡ n + 2) × (0 < has n xs)
 line_head v w [] h ne = absurd (ne h)
 line_head v w (x ∷ xs) h ne = (x.0, h.0, omega (arith, same-refl x.0))
 
 -- a line's first word and its end are in bounds
-pub ranged : (nodes slots first end : ℕ) (xs : List Waiter) → slots ≡ 1 + 2 * nodes → ((n : ℕ) → 0 < has n xs → n < nodes) → Line first xs end → end < nodes + 2 → Ranged slots first end
+pub ranged : {P : Type 0} (nodes slots first end : ℕ) (xs : List (Waiter P)) → slots ≡ 1 + 2 * nodes → ((n : ℕ) → 0 < has n xs → n < nodes) → Line first xs end → end < nodes + 2 → Ranged slots first end
 ranged nodes slots first end xs is low line low-end =
     (omega arith, λ ne. let t = line_head first end xs line ne in let l = low t.0 t.2 in (omega (arith, t.1), omega (arith, t.1)))
 
 -- what the weight of one waiting node says of a node
-spot-is : (P : Type 0) (n b m c : ℕ) (j : Bool) → 0 < spot {P = P} n b m (Behind c j) → (m ≡ n) × (c ≡ b) × (j ≡ false)
-spot-is P n b m c j h = dite (ℕ_discrete m n)
-    (λ z. bool_cases j
-    (λ t. absurd (omega (arith, h, ap {B = ℕ} (λ x. cond x (cond j 0 (same c b)) 0) (eq-eqb m n z), ap {B = ℕ} (λ x. cond x 0 (same c b)) t)))
-    (λ f. (z, same-pos c b (omega (arith, h, ap {B = ℕ} (λ x. cond x (cond j 0 (same c b)) 0) (eq-eqb m n z), ap {B = ℕ} (λ x. cond x 0 (same c b)) f)), f)))
-    (λ nz. absurd (omega (arith, h, ap {B = ℕ} (λ x. cond x (cond j 0 (same c b)) 0) (ne_eqb m n nz))))
+spot-is : (P : Type 0) (n b m c : ℕ) (j : Option P) → 0 < spot {P = P} n b m (Behind c j) → (m ≡ n) × (c ≡ b) × (j ≡ None)
+spot-is P n b m c None h = dite (ℕ_discrete m n)
+    (λ z. (z, same-pos c b (omega (arith, h, ap {B = ℕ} (λ x. cond x (same c b) 0) (eq-eqb m n z))), refl))
+    (λ nz. absurd (omega (arith, h, ap {B = ℕ} (λ x. cond x (same c b) 0) (ne_eqb m n nz))))
+spot-is P n b m c (Some j) h = absurd (omega arith)
 
-pub spot-self : (P : Type 0) (n b : ℕ) → spot {P = P} n b n (Behind b false) ≡ 1
+pub spot-self : (P : Type 0) (n b : ℕ) → spot {P = P} n b n (Behind b None) ≡ 1
 spot-self P n b = ap {B = ℕ} (λ t. cond t (same b b) 0) (eq-eqb n n refl) ∙ same-refl b
 
 -- no node with a job counts
-spot-job : (P : Type 0) (n b m c : ℕ) (j : Bool) → j ≡ true → spot {P = P} n b m (Behind c j) ≡ 0
-spot-job P n b m c j t = dite (dec_lt 0 (spot {P = P} n b m (Behind c j))) (λ h. absurd (true≢false (sym t ∙ (spot-is P n b m c j h).2))) (λ h. omega arith)
+spot-job : (P : Type 0) (n b m c : ℕ) (i : P) (j : Option P) → j ≡ Some i → spot {P = P} n b m (Behind c j) ≡ 0
+spot-job P n b m c i j t = ap (λ (x : Option P). spot {P = P} n b m (Behind c x)) t
 
 module _ {P : Type 0} where
   -- a node that waits in a line with no job has the status 1
-  line-spot : (n b : ℕ) (at : ℕ → Desk P) (xs : List Waiter) → AllWait at xs → 0 < line_weight {P = P} (spot n b) xs → (at n).status ≡ 1
+  line-spot : (n b : ℕ) (at : ℕ → Desk P) (xs : List (Waiter P)) → AllWait at xs → 0 < line_weight {P = P} (spot n b) xs → (at n).status ≡ 1
   line-spot n b at [] w h = absurd (omega arith)
   line-spot n b at (x ∷ xs) w h = dite (dec_lt 0 (spot {P = P} n b x.0 (Behind x.1 x.2)))
       (λ l. let i = spot-is P n b x.0 x.1 x.2 l in subst (λ (m : ℕ). (at m).status ≡ 1) i.0 (w.0.1 ∙ ap kind i.2))
       (λ l. line-spot n b at xs w.1 (omega arith))
 
-  done-spot : (n b : ℕ) (at : ℕ → Desk P) (xs : List Waiter) → AllDone at xs → line_weight {P = P} (spot n b) xs ≡ 0
+  done-spot : (n b : ℕ) (at : ℕ → Desk P) (xs : List (Waiter P)) → AllDone at xs → line_weight {P = P} (spot n b) xs ≡ 0
   done-spot n b at [] w = refl
-  done-spot n b at (x ∷ xs) w = omega (arith, spot-job P n b x.0 x.1 x.2 w.0, done-spot n b at xs w.2)
+  done-spot n b at (x ∷ xs) w = omega (arith, spot-job P n b x.0 x.1 w.0.0 x.2 w.0.1, done-spot n b at xs w.1)
 
   front-spot : (n b : ℕ) (y : Option (Next P)) → line_weight {P = P} (spot n b) (front y []) ≡ 0
   front-spot n b None = refl
-  front-spot n b (Some x) = omega (arith, spot-job P n b x.node x.behind true refl)
+  front-spot n b (Some x) = refl
 
   -- a granted node, or none: what the weight of one node says of the owner
-  pub granted-spot : (n b : ℕ) (o : Owner P) → 0 < owner_weight (spot n b) o → (e : ℕ) × (o ≡ granted n b false e)
+  pub granted-spot : (n b : ℕ) (o : Owner P) → 0 < owner_weight (spot n b) o → (e : ℕ) × (o ≡ granted n b None e)
   granted-spot n b nobody h = absurd (omega arith)
   granted-spot n b (turn k r) h = absurd (omega (arith, front-spot n b r.next))
   granted-spot n b (granted k c j e) h = let i = spot-is P n b k c j h in (e, λ z. granted (i.0 z) (i.1 z) (i.2 z) e)
@@ -72,40 +71,40 @@ module _ {P : Type 0} where
   behind_of (Cleared j) = 0
   behind_of (Ready j) = 0
   behind_of (Owns k) = 0
-  behind_of (Done a) = 0
+  behind_of (Done j a) = 0
 
-  granted-turn : (n b e m : ℕ) (k : Ownership P) → turn m k ≡ granted n b false e → ⊥
+  granted-turn : (n b e m : ℕ) (k : Ownership P) → turn m k ≡ granted n b None e → ⊥
   granted-turn n b e m k q = cc
 
-pub behind-idle : (P : Type 0) (b : ℕ) (j : Bool) → ◌≡◌ {A = Stage P} (Behind b j) Idle → ⊥
+pub behind-idle : (P : Type 0) (b : ℕ) (j : Option P) → ◌≡◌ {A = Stage P} (Behind b j) Idle → ⊥
 behind-idle P b j e = cc
 
-pub behind-injective : (P : Type 0) (b c : ℕ) (j k : Bool) → ◌≡◌ {A = Stage P} (Behind b j) (Behind c k) → b ≡ c
+pub behind-injective : (P : Type 0) (b c : ℕ) (j k : Option P) → ◌≡◌ {A = Stage P} (Behind b j) (Behind c k) → b ≡ c
 unfolding behind_of
 behind-injective P b c j k e = ap behind_of e
 
 module _ {P : Type 0} (rule : Goods P → Type 0) (nodes : ℕ) where
   -- a node that waits with no job is in one of the lines, or was granted
-  pub waiting : (s : State (Option P) (View P)) (o : Lawful rule nodes s) (id : ℕ) (v : View P) (b : ℕ) → get_elem? s.views id ≡ some v → v.stage ≡ Behind b false
-      → ((e : ℕ) × (o.owner ≡ granted v.number b false e)) ⊎ ((desk s.words s.homes o.posted o.answered v.number).status ≡ 1)
+  pub waiting : (s : State (Option P) (View P)) (o : Lawful rule nodes s) (id : ℕ) (v : View P) (b : ℕ) → get_elem? s.views id ≡ some v → v.stage ≡ Behind b None
+      → ((e : ℕ) × (o.owner ≡ granted v.number b None e)) ⊎ ((desk s.words s.homes o.posted o.answered v.number).status ≡ 1)
   waiting s o id v b me mine = let n : ℕ = v.number in let g : Weight P = spot n b in let at : ℕ → Desk P = desk s.words s.homes o.posted o.answered in
       let there : 0 < line_weight g o.older + line_weight g o.newer + owner_weight g o.owner =
-      omega (arith, o.standing g (λ m. (refl, refl, (λ j. refl), (λ j. refl), λ a. refl)), term_le (weigh g) s.views id v me, ap (g n) mine, spot-self P n b, done-spot n b at o.done o.finished) in
+      omega (arith, o.standing g (λ m. (refl, refl, (λ j. refl), (λ j. refl), λ j a. refl)), term_le (weigh g) s.views id v me, ap (g n) mine, spot-self P n b, done-spot n b at o.done o.finished) in
       dite (dec_lt 0 (owner_weight g o.owner))
       (λ h. inl (granted-spot n b o.owner h))
       (λ h. dite (dec_lt 0 (line_weight g o.older)) (λ l. inr (line-spot n b at o.older o.old_waits l))
       (λ l. inr (line-spot n b at o.newer o.new_waits (omega (arith, there)))))
 
-  pub polls : (known : Goods P → Type 0) → ((g : Goods P) → rule g → known g) → (slots id : ℕ) (m : SeatState P) (k b : ℕ) → m.0.stage ≡ Behind b false → k ≡ 1 + 2 * m.0.number → Allows (Lawful rule nodes) slots id m k (λ x. x) (polled known (step slots k 0 0 none) m)
+  pub polls : (known : Goods P → Type 0) → ((g : Goods P) → rule g → known g) → (slots id : ℕ) (m : SeatState P) (k b : ℕ) → m.0.stage ≡ Behind b None → k ≡ 1 + 2 * m.0.number → Allows (Lawful rule nodes) slots id m k (λ x. x) (polled known (step slots k 0 0 none) m)
   polls known tells slots id m k b mine is s o long me _ =
       let n : ℕ = m.0.number in let r : ℕ = get_or s.words k 0 in let y : P = o.value in
-      let live-now = live rule nodes s o id m.0 me (λ z. behind-idle P b false (sym mine ∙ z)) in
+      let live-now = live rule nodes s o id m.0 me (λ z. behind-idle P b None (sym mine ∙ z)) in
       let at : ℕ → Desk P = desk s.words s.homes o.posted o.answered in
       let read : r ≡ (at n).status = ap (λ (i : ℕ). get_or s.words i 0) is in
       ⊎_elim
-      (λ (t : (e : ℕ) × (o.owner ≡ granted n b false e)).
+      (λ (t : (e : ℕ) × (o.owner ≡ granted n b None e)).
       let e : ℕ = t.0 in
-      let h : Held nodes s.words s.homes at o.older o.newer y (granted n b false e) = subst (λ x. Held nodes s.words s.homes at o.older o.newer y x) t.1 o.held in
+      let h : Held nodes s.words s.homes at o.older o.newer y (granted n b None e) = subst (λ x. Held nodes s.words s.homes at o.older o.newer y x) t.1 o.held in
       let end : e ≡ r - 4 = omega (arith, read, h.1.0) in
       let big : 4 ≤ r = omega (arith, read, h.1.0) in
       let q : Queued nodes s.words o.older o.newer b (r - 4) 1 = subst (λ (x : ℕ). Queued nodes s.words o.older o.newer b x 1) end h.0 in
@@ -130,7 +129,7 @@ module _ {P : Type 0} (rule : Goods P → Type 0) (nodes : ℕ) where
             (parts-same rule nodes s.views id m.0 w y o.posted o.answered me refl o.goods_rule)),
         λ c z. (
           (λ small. absurd (omega arith)),
-          λ _. subst (λ (x : ℕ). Ranged slots x (r - 4) × ((y' : P) × ◌≡◌ {A = SeatState P} (w, (0, Some y) ∷ m.1) (moved m.0 (Owns (ownership x (r - 4) 1 false y')) (entry m.0 LoadStatus k r), (0, Some y') ∷ m.1) × Sound known y' (part m.0.quota m.0.own))) (behind-injective P b c false false (sym mine ∙ z))
+          λ _. subst (λ (x : ℕ). Ranged slots x (r - 4) × ((y' : P) × ◌≡◌ {A = SeatState P} (w, (0, Some y) ∷ m.1) (moved m.0 (Owns (ownership x (r - 4) 1 false y')) (entry m.0 LoadStatus k r), (0, Some y') ∷ m.1) × Sound known y' (part m.0.quota m.0.own))) (behind-injective P b c None None (sym mine ∙ z))
               (ranged nodes slots b (r - 4) o.older (sym long ∙ o.long) (λ i l. low_node rule nodes s o i (omega arith)) q.old_line q.low_end, (y, refl, sound rule nodes known tells s o id m.0 me)),
         ),
       ))

@@ -1,5 +1,5 @@
 -- What the rule needs at each step.
-use Rattle.std.proofs.Common.{◌≡◌, ◌≢◌, ℕ, zero, suc, ◌+◌, ◌*◌, ◌<◌, ◌≤◌, List, [], ◌∷◌, map, length, set, get_or, get_or-set_other, Option, Some, None, Bool, true, false, true≢false, refl, sym, ap, ◌∙◌, subst, ⊎_elim, arith, cond, nat_lt, nat_eq, eq-eqb, ne_eqb}
+use Rattle.std.proofs.Common.{◌≡◌, ◌≢◌, ℕ, zero, suc, ◌+◌, ◌*◌, ◌<◌, ◌≤◌, List, [], ◌∷◌, map, length, set, get_or, get_or-set_other, Option, Some, None, Bool, true, false, true≢false, refl, sym, ap, ◌∙◌, subst, inl, inr, ⊎_elim, arith, cond, nat_lt, nat_eq, eq-eqb, ne_eqb}
 use mathlib.Core.Option.{some, none, some-ne-none, some-injective, Option as Maybe}
 use mathlib.Core.Logic.{dite}
 use native.Mathlib.Decide.{ℕ_discrete, dec_lt}
@@ -15,29 +15,26 @@ use Rattle.waiter_chain.specs.Steps.{SeatState, Sound, with_steps}
 use Rattle.waiter_chain.specs.declared.view.Stage.{Stage}
 use Rattle.waiter_chain.specs.declared.view.Stage.TheVariants.{Idle, Holding, Cleared, Ready, Behind, Owns, Done}
 use Rattle.waiter_chain.specs.Goods.{Goods, goods, part, put}
-use Rattle.waiter_chain.specs.Chains.{Waiter, Line, named, covers, part_of, desk, Desk, Seated, AtRest, Waits, Taken, Finished, Granted, AllWait, AllDone, HasTaken, front, Weight, weigh, line_weight, Waking, within, Owner, nobody, turn, granted, owner_weight, Queued, AtHome, Held, Lawful}
+use Rattle.waiter_chain.specs.Chains.{Waiter, Line, named, covers, part_of, desk, Desk, Seated, AtRest, Waits, Taken, Finished, Granted, Noted, AllWait, AllDone, HasTaken, front, Weight, weigh, line_weight, Waking, within, Owner, nobody, turn, granted, owner_weight, Queued, AtHome, Held, Lawful}
+pub use Rattle.waiter_chain.specs.Shows.{has}
 use Rattle.view_sums.specs.Sums.{total, same, total-set, term_le, terms_le, total-le, map-set_same, set_self, same-refl, same-ne, same-eq}
 
-line_up : (v w : ℕ) (xs : List Waiter) → Line v xs w → 0 < w → 0 < v
+line_up : {P : Type 0} (v w : ℕ) (xs : List (Waiter P)) → Line v xs w → 0 < w → 0 < v
 line_up v w [] h up = omega arith
 line_up v w (x ∷ xs) h up = omega (arith, h.0)
 
 -- from a word to itself a line is empty, if it does not name that word
-pub line_empty : (v w : ℕ) (xs : List Waiter) → Line v xs w → named w xs ≡ 0 → v ≡ w → xs ≡ []
+pub line_empty : {P : Type 0} (v w : ℕ) (xs : List (Waiter P)) → Line v xs w → named w xs ≡ 0 → v ≡ w → xs ≡ []
 line_empty v w [] h none-there e = refl
 line_empty v w (x ∷ xs) h none-there e = absurd (omega (arith, same-eq (x.0 + 2) w (sym h.0 ∙ e)))
 
-pub line_some : (v w : ℕ) (xs : List Waiter) → Line v xs w → v ≢ w → 0 < length xs
+pub line_some : {P : Type 0} (v w : ℕ) (xs : List (Waiter P)) → Line v xs w → v ≢ w → 0 < length xs
 line_some v w [] h ne = absurd (ne h)
 line_some v w (x ∷ xs) h ne = omega arith
 
-pub line_ne : (v w : ℕ) (xs : List Waiter) → Line v xs w → named w xs ≡ 0 → 0 < length xs → v ≢ w
+pub line_ne : {P : Type 0} (v w : ℕ) (xs : List (Waiter P)) → Line v xs w → named w xs ≡ 0 → 0 < length xs → v ≢ w
 line_ne v w [] h none-there long = absurd (omega arith)
 line_ne v w (x ∷ xs) h none-there long = λ e. omega (arith, same-eq (x.0 + 2) w (sym h.0 ∙ e))
-
--- how often the line has the node n
-abbrev pub has : ℕ → List Waiter → ℕ
-has n xs = total (λ x. same x.0 n) xs
 
 pub cond-le : (b : Bool) → cond b 1 0 ≤ 1
 cond-le true = omega arith
@@ -64,7 +61,7 @@ module _ {P : Type 0} where
   awake n m (Ready j) = 0
   awake n m (Behind b j) = same m n
   awake n m (Owns k) = same m n
-  awake n m (Done a) = 0
+  awake n m (Done j a) = 0
 
   -- an owner, whatever its number
   abbrev pub ruling : Weight P
@@ -74,7 +71,7 @@ module _ {P : Type 0} where
   ruling m (Ready j) = 0
   ruling m (Behind b j) = 0
   ruling m (Owns k) = 1
-  ruling m (Done a) = 0
+  ruling m (Done j a) = 0
 
   -- a node of this number waits behind this word, with no job
   abbrev pub spot : ℕ → ℕ → Weight P
@@ -82,11 +79,12 @@ module _ {P : Type 0} where
   spot n b m Holding = 0
   spot n b m (Cleared j) = 0
   spot n b m (Ready j) = 0
-  spot n b m (Behind c j) = cond (nat_eq m n) (cond j 0 (same c b)) 0
+  spot n b m (Behind c None) = cond (nat_eq m n) (same c b) 0
+  spot n b m (Behind c (Some j)) = 0
   spot n b m (Owns k) = 0
-  spot n b m (Done a) = 0
+  spot n b m (Done j a) = 0
 
-line-ruling : (P : Type 0) (xs : List Waiter) → line_weight {P = P} ruling xs ≡ 0
+line-ruling : (P : Type 0) (xs : List (Waiter P)) → line_weight {P = P} ruling xs ≡ 0
 line-ruling P [] = refl
 line-ruling P (x ∷ xs) = omega (arith, line-ruling P xs)
 
@@ -98,7 +96,7 @@ module _ {P : Type 0} where
   awake-same n m (Ready j) = omega arith
   awake-same n m (Behind b j) = omega arith
   awake-same n m (Owns k) = omega arith
-  awake-same n m (Done a) = omega arith
+  awake-same n m (Done j a) = omega arith
 
   pub covers-live : (n : ℕ) (v : View P) → v.gone ≡ false → covers n v ≡ within n (v.number, v.spare) + total (within n) v.past
   covers-live n v e = ap {B = ℕ} (λ b. cond b 0 (within n (v.number, v.spare) + total (within n) v.past)) e
@@ -126,7 +124,7 @@ module _ {P : Type 0} where
   ownership_of d (Cleared j) = d
   ownership_of d (Ready j) = d
   ownership_of d (Behind b j) = d
-  ownership_of d (Done a) = d
+  ownership_of d (Done j a) = d
 
   pub owns-injective : (r k : Ownership P) → Owns r ≡ Owns k → r ≡ k
   unfolding ownership_of
@@ -139,14 +137,14 @@ module _ {P : Type 0} where
   turn-nobody n k e = cc
 
   -- where central is 0, there is no owner and nobody waits
-  pub was_free : (nodes : ℕ) (words : List ℕ) (homes : List (Maybe (Option P))) (at : ℕ → Desk P) (older newer : List Waiter) (value : P) (o : Owner P) → get_or words 0 0 ≡ 0 → Held nodes words homes at older newer value o
+  pub was_free : (nodes : ℕ) (words : List ℕ) (homes : List (Maybe (Option P))) (at : ℕ → Desk P) (older newer : List (Waiter P)) (value : P) (o : Owner P) → get_or words 0 0 ≡ 0 → Held nodes words homes at older newer value o
       → (older ≡ []) × (newer ≡ []) × AtHome homes value × (o ≡ nobody)
   was_free nodes words homes at older newer value nobody e h = (h.1, h.2, h.3, refl)
   was_free nodes words homes at older newer value (turn n r) e h = absurd (omega (arith, line_up (get_or words 0 0) r.mark newer h.0.new_line h.0.marked))
   was_free nodes words homes at older newer value (granted n b j k) e h = absurd (omega (arith, line_up (get_or words 0 0) 1 newer h.0.new_line h.0.marked))
 
   -- a node's desk, read at six places
-  pub desk-same : (words words' : List ℕ) (homes homes' : List (Maybe (Option P))) (posted posted' answered answered' : ℕ → Maybe P) (n : ℕ)
+  pub desk-same : (words words' : List ℕ) (homes homes' : List (Maybe (Option P))) (posted posted' : ℕ → Maybe P) (answered answered' : ℕ → Maybe (P × P)) (n : ℕ)
       → get_or words' (1 + 2 * n) 0 ≡ get_or words (1 + 2 * n) 0 → get_or words' (2 + 2 * n) 0 ≡ get_or words (2 + 2 * n) 0
       → get_elem? homes' (1 + 2 * n) ≡ get_elem? homes (1 + 2 * n) → get_elem? homes' (2 + 2 * n) ≡ get_elem? homes (2 + 2 * n)
       → posted' n ≡ posted n → answered' n ≡ answered n
@@ -164,26 +162,31 @@ module _ {P : Type 0} where
   put-none f k n e = dite (ℕ_discrete n k) (λ s. subst (λ (i : ℕ). put f k none i ≡ f i) (sym s) (put-here f k none ∙ sym e)) (λ ne. put-other f k n none ne)
 
   -- a desk where the central word has changed, and slot 0
-  pub desk-central : (words : List ℕ) (x : ℕ) (homes : List (Maybe (Option P))) (y : Maybe (Option P)) (posted answered : ℕ → Maybe P) (n : ℕ)
+  pub desk-central : (words : List ℕ) (x : ℕ) (homes : List (Maybe (Option P))) (y : Maybe (Option P)) (posted : ℕ → Maybe P) (answered : ℕ → Maybe (P × P)) (n : ℕ)
       → desk (set words 0 x) (set homes 0 y) posted answered n ≡ desk words homes posted answered n
   desk-central words x homes y posted answered n = desk-same words (set words 0 x) homes (set homes 0 y) posted posted answered answered n
       (get_or-set_other words 0 (1 + 2 * n) x 0 (λ e. omega arith)) (get_or-set_other words 0 (2 + 2 * n) x 0 (λ e. omega arith))
       (set_else homes 0 (1 + 2 * n) y (λ e. omega arith)) (set_else homes 0 (2 + 2 * n) y (λ e. omega arith)) refl refl
 
+  -- what a pass notes of its job hangs on what was posted and answered alone
+  pub noted-same : (h : Option P) (d d' : Desk P) → d'.posted ≡ d.posted → d'.answered ≡ d.answered → Noted h d → Noted h d'
+  noted-same None d d' p a h = tt
+  noted-same (Some j) d d' p a h = ⊎_elim (λ (z : d.posted ≡ some j). inl (p ∙ z)) (λ (z : (y : P) × (d.answered ≡ some (j, y))). inr (z.0, a ∙ z.1)) h
+
   module _ (at at' : ℕ → Desk P) (k : ℕ) (elsewhere : (n : ℕ) → n ≢ k → at' n ≡ at n) where
-    pub waits-other : (xs : List Waiter) → has k xs ≡ 0 → AllWait at xs → AllWait at' xs
+    pub waits-other : (xs : List (Waiter P)) → has k xs ≡ 0 → AllWait at xs → AllWait at' xs
     waits-other [] none-there h = tt
     waits-other (x ∷ xs) none-there h = (subst (Waits x.1 x.2) (sym (elsewhere x.0 (λ e. omega (arith, same-eq x.0 k e)))) h.0, waits-other xs (omega arith) h.1)
 
-    pub done-other : (xs : List Waiter) → has k xs ≡ 0 → AllDone at xs → AllDone at' xs
+    pub done-other : (xs : List (Waiter P)) → has k xs ≡ 0 → AllDone at xs → AllDone at' xs
     done-other [] none-there h = tt
-    done-other (x ∷ xs) none-there h = (h.0, subst Finished (sym (elsewhere x.0 (λ e. omega (arith, same-eq x.0 k e)))) h.1, done-other xs (omega arith) h.2)
+    done-other (x ∷ xs) none-there h = ((h.0.0, h.0.1, subst (Finished h.0.0) (sym (elsewhere x.0 (λ e. omega (arith, same-eq x.0 k e)))) h.0.2), done-other xs (omega arith) h.1)
 
     pub taken-other : (y : Option (Next P)) → has k (front y []) ≡ 0 → HasTaken at y → HasTaken at' y
     taken-other None none-there h = tt
     taken-other (Some x) none-there h = subst (Taken x.job) (sym (elsewhere x.node (λ e. omega (arith, same-eq x.node k e)))) h
 
-pub queued-words : (nodes : ℕ) (words words' : List ℕ) (older newer : List Waiter) (f e m : ℕ) → get_or words' 0 0 ≡ get_or words 0 0 → Queued nodes words older newer f e m → Queued nodes words' older newer f e m
+pub queued-words : {P : Type 0} (nodes : ℕ) (words words' : List ℕ) (older newer : List (Waiter P)) (f e m : ℕ) → get_or words' 0 0 ≡ get_or words 0 0 → Queued nodes words older newer f e m → Queued nodes words' older newer f e m
 queued-words nodes words words' older newer f e m c q = record {
   old_line = q.old_line;
   new_line = subst (λ (y : ℕ). Line y newer m) (sym c) q.new_line;
@@ -197,7 +200,7 @@ queued-words nodes words words' older newer f e m c q = record {
 
 module _ {P : Type 0} where
   -- a desk changes that is none of the owner's business
-  pub held-other : (nodes : ℕ) (words words' : List ℕ) (homes homes' : List (Maybe (Option P))) (at at' : ℕ → Desk P) (k : ℕ) (older newer : List Waiter) (value : P) (o : Owner P)
+  pub held-other : (nodes : ℕ) (words words' : List ℕ) (homes homes' : List (Maybe (Option P))) (at at' : ℕ → Desk P) (k : ℕ) (older newer : List (Waiter P)) (value : P) (o : Owner P)
       → ((n : ℕ) → n ≢ k → at' n ≡ at n) → get_or words' 0 0 ≡ get_or words 0 0 → get_elem? homes' 0 ≡ get_elem? homes 0 → owner_weight (awake k) o ≡ 0
       → Held nodes words homes at older newer value o → Held nodes words' homes' at' older newer value o
   held-other nodes words words' homes homes' at at' k older newer value nobody elsewhere c z own h = (c ∙ h.0, h.1, h.2, z ∙ h.3)
@@ -216,7 +219,7 @@ module _ {P : Type 0} (rule : Goods P → Type 0) (nodes : ℕ) where
     below n i x at = awake-le n x (λ e. (o.asleep i x at e).0)
 
     awake-standing : (n : ℕ) → total (weigh (awake n)) s.views ≡ has n o.older + has n o.newer + has n o.done + owner_weight (awake n) o.owner
-    awake-standing n = o.standing (awake n) (λ m. (refl, refl, (λ j. refl), (λ j. refl), λ a. refl))
+    awake-standing n = o.standing (awake n) (λ m. (refl, refl, (λ j. refl), (λ j. refl), λ j a. refl))
 
     -- a number that a pass covers, and by which it neither waits nor owns, is that of no waiting node, and not the owner's
     pub quiet : (id : ℕ) (v : View P) (n : ℕ) → get_elem? s.views id ≡ some v → 0 < covers n v → weigh (awake n) v ≡ 0
@@ -268,7 +271,7 @@ module _ {P : Type 0} (rule : Goods P → Type 0) (nodes : ℕ) where
     -- there is one owner
     pub one_owner : (i j : ℕ) (v u : View P) (k l : Ownership P) → j ≢ i → get_elem? s.views i ≡ some v → get_elem? s.views j ≡ some u → v.stage ≡ Owns k → u.stage ≡ Owns l → ⊥
     one_owner i j v u k l ne at there mine theirs =
-        omega (arith, terms_le (weigh ruling) s.views i j v u ne at there, ap (ruling v.number) mine, ap (ruling u.number) theirs, o.standing ruling (λ m. (refl, refl, (λ j. refl), (λ j. refl), λ a. refl)), line-ruling P o.older, line-ruling P o.newer, line-ruling P o.done, owner-le o.owner)
+        omega (arith, terms_le (weigh ruling) s.views i j v u ne at there, ap (ruling v.number) mine, ap (ruling u.number) theirs, o.standing ruling (λ m. (refl, refl, (λ j. refl), (λ j. refl), λ j a. refl)), line-ruling P o.older, line-ruling P o.newer, line-ruling P o.done, owner-le o.owner)
 
   -- what the freight's rule says to a pass
   pub sound : (known : Goods P → Type 0) → ((g : Goods P) → rule g → known g) → (s : State (Option P) (View P)) (o : Lawful rule nodes s) (id : ℕ) (v : View P) → get_elem? s.views id ≡ some v → Sound known o.value (part v.quota v.own)
@@ -278,9 +281,9 @@ module _ {P : Type 0} (rule : Goods P → Type 0) (nodes : ℕ) where
   abbrev pub Goes : State (Option P) (View P) → ℕ → ℕ → SeatState P → (ℕ → SeatState P → Type 0) → ℕ → Type 0
   Goes s k id m then n = (w : View P) × (a : Act (Option P)) × Valid s.homes m.1 a × Lawful rule nodes (stepped s k n id m.1 w a) × then (get_or s.words k 0) (w, carried_after m.1 a)
 
-  -- a step of one pass, that changes the desk of one node, and no link but that of its own
-  pub restaged : (s : State (Option P) (View P)) (o : Lawful rule nodes s) (id : ℕ) (v w : View P) (words : List ℕ) (homes : List (Maybe (Option P))) (posted answered : ℕ → Maybe P)
-      (owner : Owner P) (older newer done : List Waiter) (value : P) (k : ℕ)
+  -- a step of one pass, that changes the desk of one node and its own, and no link but that of its own
+  pub restaged-two : (s : State (Option P) (View P)) (o : Lawful rule nodes s) (id : ℕ) (v w : View P) (words : List ℕ) (homes : List (Maybe (Option P))) (posted : ℕ → Maybe P) (answered : ℕ → Maybe (P × P))
+      (owner : Owner P) (older newer done : List (Waiter P)) (value : P) (k : ℕ)
       → get_elem? s.views id ≡ some v
       → v.gone ≡ false → w.gone ≡ v.gone → w.number ≡ v.number → w.quota ≤ v.quota
       → ((n : ℕ) → covers n w ≡ covers n v)
@@ -289,7 +292,7 @@ module _ {P : Type 0} (rule : Goods P → Type 0) (nodes : ℕ) where
       → ((g : Weight P) → Waking g → line_weight g older + line_weight g newer + line_weight g done + owner_weight g owner + weigh g v ≡ line_weight g o.older + line_weight g o.newer + line_weight g o.done + owner_weight g o.owner + weigh g w)
       → ((r : Ownership P) → w.stage ≡ Owns r → owner ≡ turn w.number r)
       → ((j : ℕ) (u : View P) (r : Ownership P) → j ≢ id → get_elem? s.views j ≡ some u → u.stage ≡ Owns r → owner ≡ turn u.number r)
-      → ((n : ℕ) → n ≢ k → desk words homes posted answered n ≡ desk s.words s.homes o.posted o.answered n)
+      → ((n : ℕ) → n ≢ k → n ≢ v.number → desk words homes posted answered n ≡ desk s.words s.homes o.posted o.answered n)
       → Seated w.stage (desk words homes posted answered w.number)
       → ((j : ℕ) (u : View P) → j ≢ id → get_elem? s.views j ≡ some u → u.gone ≡ false → u.number ≡ k → Seated u.stage (desk words homes posted answered u.number))
       → ((j : ℕ) (u : View P) → get_elem? s.views j ≡ some u → 0 < covers k u → k ≡ u.number)
@@ -297,11 +300,11 @@ module _ {P : Type 0} (rule : Goods P → Type 0) (nodes : ℕ) where
       → Held nodes words homes (desk words homes posted answered) older newer value owner
       → rule (goods value posted answered (map part_of (set s.views id w)))
       → Lawful rule nodes record { words = words; homes = homes; views = set s.views id w }
-  restaged s o id v w words homes posted answered owner older newer done value k me live-now still number spends covers-same long₁ long₂ links own-link weights own-mine own-others elsewhere mine others sole old new fin held goods-rule =
+  restaged-two s o id v w words homes posted answered owner older newer done value k me live-now still number spends covers-same long₁ long₂ links own-link weights own-mine own-others elsewhere mine others sole old new fin held goods-rule =
       let at : ℕ → Desk P = desk words homes posted answered in
       -- a number at rest stays so
       let rests : (j : ℕ) (u : View P) (n : ℕ) → get_elem? s.views j ≡ some u → u.gone ≡ false → 0 < covers n u → n ≢ u.number → AtRest (at n) = λ j u n there live-u some-there ne.
-      subst AtRest (sym (elsewhere n (λ e. ne (e ∙ sole j u there (subst (λ (i : ℕ). 0 < covers i u) e some-there))))) (o.unused j u n there live-u some-there ne) in
+      subst AtRest (sym (elsewhere n (λ e. ne (e ∙ sole j u there (subst (λ (i : ℕ). 0 < covers i u) e some-there))) (λ e. ne (e ∙ covers_mine s o id v me live-now j u there (subst (λ (i : ℕ). 0 < covers i u) e some-there))))) (o.unused j u n there live-u some-there ne) in
       record {
         owner = owner;
         older = older;
@@ -317,7 +320,7 @@ module _ {P : Type 0} (rule : Goods P → Type 0) (nodes : ℕ) where
         asleep = λ j u there e. ⊎_elim (λ (t : (j ≡ id) × (w ≡ u)). absurd (true≢false (sym e ∙ ap (λ (x : View P). x.gone) (sym t.1) ∙ still ∙ live-now))) (λ (t : (j ≢ id) × (get_elem? s.views j ≡ some u)). o.asleep j u t.1 e) (at_set s.views id j w u there);
         owned = λ j u r there e. ⊎_elim (λ (t : (j ≡ id) × (w ≡ u)). subst (λ (x : View P). owner ≡ turn x.number r) t.1 (own-mine r (ap (λ (x : View P). x.stage) t.1 ∙ e))) (λ (t : (j ≢ id) × (get_elem? s.views j ≡ some u)). own-others j u r t.0 t.1 e) (at_set s.views id j w u there);
         seated = λ j u there live-u. ⊎_elim (λ (t : (j ≡ id) × (w ≡ u)). subst (λ (x : View P). Seated x.stage (at x.number)) t.1 mine)
-            (λ (t : (j ≢ id) × (get_elem? s.views j ≡ some u)). dite (ℕ_discrete u.number k) (others j u t.0 t.1 live-u) (λ ne. subst (Seated u.stage) (sym (elsewhere u.number ne)) (o.seated j u t.1 live-u))) (at_set s.views id j w u there);
+            (λ (t : (j ≢ id) × (get_elem? s.views j ≡ some u)). dite (ℕ_discrete u.number k) (others j u t.0 t.1 live-u) (λ ne. subst (Seated u.stage) (sym (elsewhere u.number ne (λ e. numbers_apart s o id j v u t.0 me t.1 live-now live-u e))) (o.seated j u t.1 live-u))) (at_set s.views id j w u there);
         unused = λ j u n there live-u some-there ne. ⊎_elim
             (λ (t : (j ≡ id) × (w ≡ u)). rests id v n me live-now (omega (arith, covers-same n, subst (λ (x : View P). 0 < covers n x) (sym t.1) some-there)) (λ e. ne (e ∙ sym number ∙ ap (λ (x : View P). x.number) t.1)))
             (λ (t : (j ≢ id) × (get_elem? s.views j ≡ some u)). rests j u n t.1 live-u some-there ne) (at_set s.views id j w u there);
@@ -336,9 +339,31 @@ module _ {P : Type 0} (rule : Goods P → Type 0) (nodes : ℕ) where
         goods_rule = goods-rule;
       }
 
+  -- a step of one pass, that changes the desk of one node, and no link but that of its own
+  pub restaged : (s : State (Option P) (View P)) (o : Lawful rule nodes s) (id : ℕ) (v w : View P) (words : List ℕ) (homes : List (Maybe (Option P))) (posted : ℕ → Maybe P) (answered : ℕ → Maybe (P × P))
+      (owner : Owner P) (older newer done : List (Waiter P)) (value : P) (k : ℕ)
+      → get_elem? s.views id ≡ some v
+      → v.gone ≡ false → w.gone ≡ v.gone → w.number ≡ v.number → w.quota ≤ v.quota
+      → ((n : ℕ) → covers n w ≡ covers n v)
+      → length words ≡ length s.words → length homes ≡ length s.homes
+      → ((n : ℕ) → n ≢ v.number → get_or words (2 + 2 * n) 0 ≡ get_or s.words (2 + 2 * n) 0) → (w.linked ≡ false → (v.linked ≡ false) × (get_or words (2 + 2 * v.number) 0 ≡ 0))
+      → ((g : Weight P) → Waking g → line_weight g older + line_weight g newer + line_weight g done + owner_weight g owner + weigh g v ≡ line_weight g o.older + line_weight g o.newer + line_weight g o.done + owner_weight g o.owner + weigh g w)
+      → ((r : Ownership P) → w.stage ≡ Owns r → owner ≡ turn w.number r)
+      → ((j : ℕ) (u : View P) (r : Ownership P) → j ≢ id → get_elem? s.views j ≡ some u → u.stage ≡ Owns r → owner ≡ turn u.number r)
+      → ((n : ℕ) → n ≢ k → desk words homes posted answered n ≡ desk s.words s.homes o.posted o.answered n)
+      → Seated w.stage (desk words homes posted answered w.number)
+      → ((j : ℕ) (u : View P) → j ≢ id → get_elem? s.views j ≡ some u → u.gone ≡ false → u.number ≡ k → Seated u.stage (desk words homes posted answered u.number))
+      → ((j : ℕ) (u : View P) → get_elem? s.views j ≡ some u → 0 < covers k u → k ≡ u.number)
+      → AllWait (desk words homes posted answered) older → AllWait (desk words homes posted answered) newer → AllDone (desk words homes posted answered) done
+      → Held nodes words homes (desk words homes posted answered) older newer value owner
+      → rule (goods value posted answered (map part_of (set s.views id w)))
+      → Lawful rule nodes record { words = words; homes = homes; views = set s.views id w }
+  restaged s o id v w words homes posted answered owner older newer done value k me live-now still number spends covers-same long₁ long₂ links own-link weights own-mine own-others elsewhere mine others sole old new fin held goods-rule =
+      restaged-two s o id v w words homes posted answered owner older newer done value k me live-now still number spends covers-same long₁ long₂ links own-link weights own-mine own-others (λ n ne _. elsewhere n ne) mine others sole old new fin held goods-rule
+
   -- where the desk is that of the pass's own node, and no link changes
-  pub restaged-own : (s : State (Option P) (View P)) (o : Lawful rule nodes s) (id : ℕ) (v w : View P) (words : List ℕ) (homes : List (Maybe (Option P))) (posted answered : ℕ → Maybe P)
-      (owner : Owner P) (older newer done : List Waiter) (value : P)
+  pub restaged-own : (s : State (Option P) (View P)) (o : Lawful rule nodes s) (id : ℕ) (v w : View P) (words : List ℕ) (homes : List (Maybe (Option P))) (posted : ℕ → Maybe P) (answered : ℕ → Maybe (P × P))
+      (owner : Owner P) (older newer done : List (Waiter P)) (value : P)
       → get_elem? s.views id ≡ some v
       → v.gone ≡ false → w.gone ≡ v.gone → w.linked ≡ v.linked → w.number ≡ v.number → w.quota ≤ v.quota
       → ((n : ℕ) → covers n w ≡ covers n v)
@@ -358,7 +383,7 @@ module _ {P : Type 0} (rule : Goods P → Type 0) (nodes : ℕ) where
       (λ j u ne there live-u e. absurd (numbers_apart s o id j v u ne me there live-now live-u e)) (covers_mine s o id v me live-now) old new fin held goods-rule
 
   -- the parts stay as they are
-  pub parts-same : (views : List (View P)) (id : ℕ) (v w : View P) (value : P) (posted answered : ℕ → Maybe P) → get_elem? views id ≡ some v → part_of w ≡ part_of v → rule (goods value posted answered (map part_of views)) → rule (goods value posted answered (map part_of (set views id w)))
+  pub parts-same : (views : List (View P)) (id : ℕ) (v w : View P) (value : P) (posted : ℕ → Maybe P) (answered : ℕ → Maybe (P × P)) → get_elem? views id ≡ some v → part_of w ≡ part_of v → rule (goods value posted answered (map part_of views)) → rule (goods value posted answered (map part_of (set views id w)))
   parts-same views id v w value posted answered me e = subst (λ ps. rule (goods value posted answered ps)) (sym (map-set_same part_of views id v w me e))
 
   -- a step that changes no word and no stage

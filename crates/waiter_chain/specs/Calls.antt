@@ -1,11 +1,16 @@
 -- What the calls on a chain promise.
-use Rattle.std.specs.Prelude.{◌≡◌, ◌≢◌, ◌⊎◌, ℕ, ◌+◌, ◌*◌, ◌≤◌, List, [], ◌∷◌, length, Option, Some, false}
+use Rattle.std.specs.Prelude.{◌≡◌, ◌≢◌, ◌⊎◌, ℕ, ◌+◌, ◌-◌, ◌*◌, ◌<◌, ◌≤◌, List, [], ◌∷◌, ◌++◌, length, Option, Some, None, Bool, true, false}
+use Rattle.atomic_table.specs.Table.{rest}
 use Rattle.waiter_chain.specs.Goods.{Goods, part, Runs}
-use Rattle.waiter_chain.specs.Steps.{SeatState, Ranged, HasNone, Sound, ownership, passed, entry, moved, noted, stays, ended}
+use Rattle.waiter_chain.specs.Steps.{SeatState, Ranged, HasNone, Sound, SoundJob, SoundAnswer, WinsBack, ownership, ownership_with, passed, retook, seen_job, with_next, settled_notes, served, settled, collected, paid, linked_by, with_steps, entry, moved, noted, stays, ended}
+use Rattle.waiter_chain.specs.Chains.{entering}
+use Rattle.waiter_chain.specs.declared.view.OwnSlot.TheVariants.{Unused}
+use Rattle.waiter_chain.specs.declared.turn.Kind.{Kind}
+use Rattle.waiter_chain.specs.declared.turn.Kind.TheVariants as kind
 use Rattle.waiter_chain.specs.declared.view.Entry.{Entry}
-use Rattle.waiter_chain.specs.declared.view.Event.TheVariants.{SetStatus, SwapIn, TryIn, LoadStatus, Free, TakeChain}
+use Rattle.waiter_chain.specs.declared.view.Event.TheVariants.{SetStatus, SwapIn, TryIn, LoadStatus, Free, TakeChain, StoreLink, LoadKind, LoadLink, Serve}
 use Rattle.waiter_chain.specs.declared.view.Ownership.{Ownership}
-use Rattle.waiter_chain.specs.declared.view.Stage.TheVariants.{Idle, Ready, Behind, Owns}
+use Rattle.waiter_chain.specs.declared.view.Stage.TheVariants.{Idle, Holding, Cleared, Ready, Behind, Owns, Done}
 use Rattle.waiter_chain.specs.declared.turn.Turn.{Turn}
 use Rattle.waiter_chain.specs.declared.turn.DistBusy.{DistBusy}
 use Rattle.waiter_chain.specs.declared.turn.Entered.{Entered}
@@ -24,7 +29,15 @@ module _ {P : Type 0} where
 
   -- the pass waits behind the word b
   abbrev pub IsBehind : ℕ → SeatState P → Type 0
-  IsBehind b m = (m.0.stage ≡ Behind b false) × (m.1 ≡ [])
+  IsBehind b m = (m.0.stage ≡ Behind b None) × (m.1 ≡ [])
+
+  -- the pass waits behind the word b, with a job or without one
+  abbrev pub WaitsBehind : ℕ → SeatState P → Type 0
+  WaitsBehind b m = (h : Option P) × (m.0.stage ≡ Behind b h) × (m.1 ≡ [])
+
+  -- it has stored that word in its link
+  abbrev pub linked_state : ℕ → SeatState P → SeatState P
+  linked_state b m = (linked_by m.0 (entry m.0 StoreLink (2 + 2 * m.0.number) b), m.1)
 
   -- the pass owns the lock by this turn, as these notes say, with this in slot 0
   abbrev pub OwnsBy : ℕ → Turn → Option P → SeatState P → Ownership P → Type 0
@@ -45,30 +58,74 @@ module _ {P : Type 0} where
   abbrev pub WasBusy : SeatState P → SeatState P → DistBusy → Type 0
   WasBusy m n b = (b.word ≢ 0) × (n ≡ stays m (entry m.0 TryIn 0 b.word))
 
-  -- the pass has stored 1 in its own status
-  abbrev pub readied_state : SeatState P → SeatState P
-  readied_state m = (moved m.0 (Ready false) (entry m.0 SetStatus (1 + 2 * m.0.number) 1), m.1)
+  -- a pass that may enter so: with a job it has the job in its own slot, and may still pay for one
+  abbrev pub MayEnter : (P → Type 0) → Kind → SeatState P → Type 0
+  MayEnter is_job kind.Plain m = IsIdle m
+  MayEnter is_job kind.WithJob m = (m.0.stage ≡ Holding) × ((job : P) × (m.1 ≡ (1 + 2 * m.0.number, Some job) ∷ []) × is_job job) × (1 ≤ m.0.quota)
+
+  -- the pass has stored 0 in its own link, and how it enters in its own status
+  abbrev pub readied_state : Bool → SeatState P → SeatState P
+  readied_state b m = (moved (moved m.0 (Cleared b) (entry m.0 StoreLink (2 + 2 * m.0.number) 0)) (Ready b) (entry m.0 SetStatus (1 + 2 * m.0.number) (entering b)), m.1)
+
+  -- by the step e the pass has posted a job and become the owner: its job is in its own slot, the value is in its hand, and the freight's rule holds of both
+  abbrev pub WonWith : (Goods P → Type 0) → ℕ → Turn → SeatState P → Entry → SeatState P → Type 0
+  WonWith rule slots t m e n = (y : P) × (job : P) × (m.1 ≡ (1 + 2 * m.0.number, Some job) ∷ []) × (n ≡ (paid m.0 (m.0.quota - 1) (Owns (ownership_with t.first job y)) e, (0, Some y) ∷ m.1)) × Ranged slots t.first t.end × SoundJob rule y (part (m.0.quota - 1) m.0.own) m.0.number job
 
   -- and has then swapped itself in: the owner found 0, and who is behind another found that word
-  abbrev pub EnteredAs : (Goods P → Type 0) → ℕ → ℕ → SeatState P → SeatState P → Entered → Type 0
-  EnteredAs rule slots b m n (entered.Owner t) = Won rule slots t (readied_state m) (entry m.0 SwapIn 0 0) n × (t.first ≡ m.0.number + 2) × (t.end ≡ m.0.number + 2) × (t.mark ≡ m.0.number + 2)
-  EnteredAs rule slots b m n entered.Behind = (b ≢ 0) × (n ≡ (moved (readied_state m).0 (Behind b false) (entry m.0 SwapIn 0 b), []))
+  abbrev pub EnteredAs : (Goods P → Type 0) → ℕ → Kind → ℕ → SeatState P → SeatState P → Entered → Type 0
+  EnteredAs rule slots kind.Plain b m n (entered.Owner t) = Won rule slots t (readied_state false m) (entry m.0 SwapIn 0 0) n × (t.first ≡ m.0.number + 2) × (t.end ≡ m.0.number + 2) × (t.mark ≡ m.0.number + 2)
+  EnteredAs rule slots kind.Plain b m n entered.Behind = (b ≢ 0) × (n ≡ (moved (readied_state false m).0 (Behind b None) (entry m.0 SwapIn 0 b), []))
+  EnteredAs rule slots kind.WithJob b m n (entered.Owner t) = WonWith rule slots t (readied_state true m) (entry m.0 SwapIn 0 0) n × (t.first ≡ m.0.number + 2) × (t.end ≡ m.0.number + 2) × (t.mark ≡ m.0.number + 2)
+  EnteredAs rule slots kind.WithJob b m n entered.Behind = (b ≢ 0) × ((job : P) × (m.1 ≡ (1 + 2 * m.0.number, Some job) ∷ []) × (n ≡ (paid (readied_state true m).0 (m.0.quota - 1) (Behind b (Some job)) (entry m.0 SwapIn 0 b), [])))
 
-  -- the same
-  abbrev pub ArrivedAs : (Goods P → Type 0) → ℕ → ℕ → SeatState P → SeatState P → Arrived → Type 0
-  ArrivedAs rule slots b m n (arrived.Owner t) = EnteredAs rule slots b m n (entered.Owner t)
-  ArrivedAs rule slots b m n arrived.Waiting = EnteredAs rule slots b m n entered.Behind
+  -- the same, and where it is behind it has then stored that word in its link
+  abbrev pub ArrivedAs : (Goods P → Type 0) → ℕ → Kind → ℕ → SeatState P → SeatState P → Arrived → Type 0
+  ArrivedAs rule slots k b m n (arrived.Owner t) = EnteredAs rule slots k b m n (entered.Owner t)
+  ArrivedAs rule slots k b m n arrived.Waiting = (l : SeatState P) × EnteredAs rule slots k b m l entered.Behind × (n ≡ linked_state b l)
 
   -- one load of its own status found 1, or 4 and more
   abbrev pub PolledAs : (Goods P → Type 0) → ℕ → ℕ → SeatState P → SeatState P → Polled → Type 0
   PolledAs rule slots b m n (polled.Still word) = (word ≡ 1) × (n ≡ stays m (entry m.0 LoadStatus (1 + 2 * m.0.number) word))
+  PolledAs rule slots b m n polled.Done = ⊥
   PolledAs rule slots b m n (polled.Owner t) = Won rule slots t m (entry m.0 LoadStatus (1 + 2 * m.0.number) (t.end + 4)) n × (t.first ≡ b) × (t.mark ≡ 1)
+
+  -- one load of its own status by a pass that has posted a job: it waits still, or its answer is in its hand, or it is the owner and its job is in its own slot again
+  abbrev pub PolledJobAs : (Goods P → Type 0) → ℕ → ℕ → P → SeatState P → SeatState P → Polled → Type 0
+  PolledJobAs rule slots b job m n (polled.Still word) = (word ≡ 2) × (n ≡ stays m (entry m.0 LoadStatus (1 + 2 * m.0.number) word))
+  PolledJobAs rule slots b job m n polled.Done = (a : P) × (n ≡ (moved m.0 (Done job a) (entry m.0 LoadStatus (1 + 2 * m.0.number) 3), (2 + 2 * m.0.number, Some a) ∷ m.1)) × SoundAnswer rule m.0.number job a
+  PolledJobAs rule slots b job m n (polled.Owner t) = (t.first ≡ b) × (t.mark ≡ 1) × Ranged slots t.first t.end × WinsBack rule m job t.first t.end (entry m.0 LoadStatus (1 + 2 * m.0.number) (t.end + 4)) n
+
+  -- the next node's status was loaded
+  abbrev pub KindSeen : ℕ → SeatState P → SeatState P → Kind → Type 0
+  KindSeen x m n kind.Plain = n ≡ stays m (entry m.0 LoadKind (1 + 2 * x) 1)
+  KindSeen x m n kind.WithJob = (k : Ownership P) × (m.0.stage ≡ Owns k) × (n ≡ (moved m.0 (Owns (seen_job k)) (entry m.0 LoadKind (1 + 2 * x) 2), m.1))
+
+  -- the next node's link was loaded: 0, or the word that it waits behind, and then its two slots are in the owner's hand
+  abbrev pub LinkSeen : (Goods P → Type 0) → ℕ → SeatState P → SeatState P → ℕ → Type 0
+  LinkSeen rule x m n link = (link ≡ 0 → n ≡ stays m (entry m.0 LoadLink (2 + 2 * x) link))
+      × (link ≢ 0 → (k : Ownership P) × (job : P) × (a : Option P) × (m.0.stage ≡ Owns k) × (n ≡ (moved m.0 (Owns (with_next k x link job)) (entry m.0 LoadLink (2 + 2 * x) link), (2 + 2 * x, a) ∷ (1 + 2 * x, Some job) ∷ m.1)) × SoundJob rule k.value (part m.0.quota m.0.own) x job)
+
+  -- the owner has run these jobs of its own and then the next node's job: the answer lies in that node's slot, and the value is in hand
+  abbrev pub MayServe : (P → P → P → P → Type 0) → ℕ → List (P × P) → Turn → ℕ → SeatState P → Type 0
+  MayServe relates slots ran t link m = (k : Ownership P) × (job : P) × (answer : P) × (mid : P) × (now : P) × (z : Option P) × (m.0.stage ≡ Owns k) × (k.first ≡ t.first) × (k.end ≡ t.end) × (k.mark ≡ t.mark)
+      × (k.next ≡ Some (record { node = t.first - 2; behind = link; job = job })) × (k.mine ≡ Unused)
+      × (m.1 ≡ (2 + 2 * (t.first - 2), Some answer) ∷ (1 + 2 * (t.first - 2), z) ∷ (0, Some now) ∷ []) × (1 < t.first) × (2 * t.first < slots + 3)
+      × Runs relates k.value ran mid × (length ran ≤ m.0.quota) × relates mid job answer now
+
+  -- that node is done, and the owner's own jobs are settled
+  abbrev pub Served : ℕ → List (P × P) → Turn → ℕ → SeatState P → SeatState P → Turn → Type 0
+  Served slots ran t link m n u = (u.first ≡ link) × (u.end ≡ t.end) × (u.mark ≡ t.mark) × HasTurn slots u n
+      × ((k : Ownership P) × (now : P) × (m.0.stage ≡ Owns k) × (rest (rest m.1) ≡ (0, Some now) ∷ []) × (n ≡ (with_steps (settled m.0 (m.0.quota - length ran) ran (settled_notes k now)) (Owns (served (settled_notes k now) link now)) (m.0.steps ++ entry m.0 Serve (1 + 2 * (t.first - 2)) 3 ∷ []), (0, Some now) ∷ [])))
+
+  -- the pass has its answer, and is idle
+  abbrev pub Rested : SeatState P → SeatState P → Type 0
+  Rested m n = (job : P) × (answer : P) × (m.0.stage ≡ Done job answer) × (n ≡ (collected m.0 (job, answer) (m.0.steps ++ entry m.0 SetStatus (1 + 2 * m.0.number) 0 ∷ []), []))
 
   -- the value in hand is what these jobs made of the value that the owner took, and the quota suffices for them
   abbrev pub MayEnd : (P → P → P → P → Type 0) → List (P × P) → SeatState P → Type 0
   MayEnd relates ran m = (k : Ownership P) × (now : P) × (m.0.stage ≡ Owns k) × (m.1 ≡ (0, Some now) ∷ []) × (length ran ≤ m.0.quota) × Runs relates k.value ran now
 
-  -- by the step e the ownership has ended: the quota has fallen by the number of these jobs, and their answers stand in the pass's list
+  -- by the step e the ownership has ended: the quota has fallen by the number of these jobs, and these stand at the end of the pass's list
   abbrev pub Ended : List (P × P) → Entry → SeatState P → SeatState P → Type 0
   Ended ran e m n = n ≡ (ended m.0 ran e, [])
 
@@ -78,7 +135,7 @@ module _ {P : Type 0} where
 
   -- and has then taken the chain that begins at the word found, down to its own old mark
   abbrev pub Took : SeatState P → SeatState P → Ownership P → Turn → Type 0
-  Took m n k t = (t.end ≡ k.mark) × (t.mark ≡ 1) × ((seen : SeatState P) × SawOthers m seen k × (n ≡ (moved seen.0 (Owns (ownership t.first k.mark 1 false k.value)) (entry m.0 TakeChain 0 t.first), m.1)))
+  Took m n k t = (t.end ≡ k.mark) × (t.mark ≡ 1) × ((seen : SeatState P) × SawOthers m seen k × (n ≡ (moved seen.0 (Owns (retook k t.first)) (entry m.0 TakeChain 0 t.first), m.1)))
 
   -- where the chain wasn't empty nothing happened; else the lock was freed, or the newest chain was taken
   abbrev pub FollowsAs : ℕ → List (P × P) → Turn → SeatState P → SeatState P → Follow → Type 0
@@ -89,4 +146,4 @@ module _ {P : Type 0} where
   abbrev pub TookAs : ℕ → ℕ → SeatState P → SeatState P → Follow → Type 0
   TookAs slots mark m n follow.Free = ⊥
   TookAs slots mark m n (follow.Waits t node) = (t.first ≢ t.end) × (node + 2 ≡ t.first) × HasTurn slots t n
-      × (t.end ≡ mark) × (t.mark ≡ 1) × ((k : Ownership P) × (m.0.stage ≡ Owns k) × (n ≡ (moved m.0 (Owns (ownership t.first mark 1 false k.value)) (entry m.0 TakeChain 0 t.first), m.1)))
+      × (t.end ≡ mark) × (t.mark ≡ 1) × ((k : Ownership P) × (m.0.stage ≡ Owns k) × (n ≡ (moved m.0 (Owns (retook k t.first)) (entry m.0 TakeChain 0 t.first), m.1)))

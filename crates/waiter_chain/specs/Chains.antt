@@ -7,36 +7,44 @@ use Rattle.view_sums.specs.Sums.{total, same}
 use Rattle.waiter_chain.specs.Goods.{Goods, Part, part, goods}
 use Rattle.waiter_chain.specs.declared.view.View.{View}
 use Rattle.waiter_chain.specs.declared.view.Next.{Next}
+use Rattle.waiter_chain.specs.declared.view.OwnSlot.{OwnSlot}
+use Rattle.waiter_chain.specs.declared.view.OwnSlot.TheVariants.{Unused, InHand, Unrun}
 use Rattle.waiter_chain.specs.declared.view.Ownership.{Ownership}
 use Rattle.waiter_chain.specs.declared.view.Stage.{Stage}
 use Rattle.waiter_chain.specs.declared.view.Stage.TheVariants.{Idle, Holding, Cleared, Ready, Behind, Owns, Done}
 
--- A waiting node: its number, the word that its swap found, and whether it has posted a job
-abbrev pub Waiter : Type 0
-Waiter = ℕ × ℕ × Bool
+-- A waiting node: its number, the word that its swap found, and the job that it has posted, where it has posted one
+abbrev pub Waiter : Type 0 → Type 0
+Waiter P = ℕ × ℕ × Option P
 
--- A line of waiting nodes, from the word v down to the word w
-abbrev pub Line : ℕ → List Waiter → ℕ → Type 0
-Line v [] w = v ≡ w
-Line v (x ∷ xs) w = (v ≡ x.0 + 2) × Line x.1 xs w
+module _ {P : Type 0} where
+  -- A line of waiting nodes, from the word v down to the word w
+  abbrev pub Line : ℕ → List (Waiter P) → ℕ → Type 0
+  Line v [] w = v ≡ w
+  Line v (x ∷ xs) w = (v ≡ x.0 + 2) × Line x.1 xs w
 
--- how often the word v names a node of the line
-abbrev pub named : ℕ → List Waiter → ℕ
-named v xs = total (λ x. same (x.0 + 2) v) xs
+  -- how often the word v names a node of the line
+  abbrev pub named : ℕ → List (Waiter P) → ℕ
+  named v xs = total (λ x. same (x.0 + 2) v) xs
+
+  -- the status of a node that waits with a job, or without one
+  abbrev pub kind : Option P → ℕ
+  kind None = 1
+  kind (Some j) = 2
+
+  -- where the owner has seen a job, the first node of the line has posted one
+  abbrev pub HasSeen : Bool → List (Waiter P) → Type 0
+  HasSeen false xs = Unit {0}
+  HasSeen true [] = ⊥
+  HasSeen true (x ∷ xs) = (j : P) × (x.2 ≡ Some j)
+
+-- the status of a node that is about to enter with a job, or without one
+abbrev pub entering : Bool → ℕ
+entering with_job = cond with_job 2 1
 
 -- whether n is a number of this range: its first number, and how many come after it
 abbrev pub within : ℕ → ℕ × ℕ → ℕ
 within n x = cond (nat_lt n x.0) 0 (cond (nat_lt (x.0 + x.1) n) 0 1)
-
--- the status of a node that waits with a job, or without one
-abbrev pub kind : Bool → ℕ
-kind with_job = cond with_job 2 1
-
--- where the owner has seen a job, the first node of the line has posted one
-abbrev pub HasSeen : Bool → List Waiter → Type 0
-HasSeen false xs = Unit {0}
-HasSeen true [] = ⊥
-HasSeen true (x ∷ xs) = x.2 ≡ true
 
 module _ {P : Type 0} where
   -- how often the pass covers the number n
@@ -46,23 +54,23 @@ module _ {P : Type 0} where
   abbrev pub part_of : View P → Part P
   part_of v = part v.quota v.own
 
--- all that the table has of one node: its two words, its two slots, the job that it has posted and that has not run, and the answer that waits for it
+-- all that the table has of one node: its two words, its two slots, the job that it has posted and that has not run, and its job that ran with the answer that waits for it
 pub record Desk (P : Type 0) : Type 0 where
   pub status : ℕ
   pub link : ℕ
   pub job : Maybe (Maybe (Option P))
   pub answer : Maybe (Maybe (Option P))
   pub posted : Maybe P
-  pub answered : Maybe P
+  pub answered : Maybe (P × P)
 
--- who has the lock: nobody, the pass of a number, or a node that was granted and has not polled since, with what its swap found, whether it has posted a job, and the end of its line
+-- who has the lock: nobody, the pass of a number, or a node that was granted and has not polled since, with what its swap found, the job that it has posted, where it has posted one, and the end of its line
 pub data Owner (P : Type 0) : Type 0 where
   nobody : Owner P
   turn : ℕ → Ownership P → Owner P
-  granted : ℕ → ℕ → Bool → ℕ → Owner P
+  granted : ℕ → ℕ → Option P → ℕ → Owner P
 
 module _ {P : Type 0} where
-  abbrev pub desk : List ℕ → List (Maybe (Option P)) → (ℕ → Maybe P) → (ℕ → Maybe P) → ℕ → Desk P
+  abbrev pub desk : List ℕ → List (Maybe (Option P)) → (ℕ → Maybe P) → (ℕ → Maybe (P × P)) → ℕ → Desk P
   desk words homes posted answered n =
       record { status = slice_index words (1 + 2 * n); link = slice_index words (2 + 2 * n); job = get_elem? homes (1 + 2 * n); answer = get_elem? homes (2 + 2 * n); posted = posted n; answered = answered n }
 
@@ -90,53 +98,65 @@ module _ {P : Type 0} where
   JobAt false d = Home d.job
 
   -- a job that was posted lies in its slot
-  abbrev pub Keeps : Bool → Desk P → Type 0
-  Keeps true d = (j : P) × Filled d.job j × (d.posted ≡ some j)
-  Keeps false d = Home d.job × (d.posted ≡ none)
+  abbrev pub Keeps : Option P → Desk P → Type 0
+  Keeps (Some j) d = Filled d.job j × (d.posted ≡ some j)
+  Keeps None d = Home d.job × (d.posted ≡ none)
 
   -- the node waits: its status says how, and its link is what its swap found, or not stored yet
-  abbrev pub Waits : ℕ → Bool → Desk P → Type 0
-  Waits behind with_job d = ((d.link ≡ 0) ⊎ (d.link ≡ behind)) × (d.status ≡ kind with_job) × Home d.answer × (d.answered ≡ none) × Keeps with_job d
+  abbrev pub Waits : ℕ → Option P → Desk P → Type 0
+  Waits behind job d = ((d.link ≡ 0) ⊎ (d.link ≡ behind)) × (d.status ≡ kind job) × Home d.answer × (d.answered ≡ none) × Keeps job d
 
   -- the owner has taken the node's two slots, and is to run its job
   abbrev pub Taken : P → Desk P → Type 0
   Taken j d = (d.status ≡ 2) × IsOut d.job × IsOut d.answer × (d.posted ≡ some j) × (d.answered ≡ none)
 
   -- the node's job has run, and its answer lies in its slot
-  abbrev pub Finished : Desk P → Type 0
-  Finished d = (d.status ≡ 3) × Home d.job × ((a : P) × Filled d.answer a × (d.answered ≡ some a)) × (d.posted ≡ none)
+  abbrev pub Finished : P → Desk P → Type 0
+  Finished j d = (d.status ≡ 3) × Home d.job × ((a : P) × Filled d.answer a × (d.answered ≡ some (j, a))) × (d.posted ≡ none)
 
   -- the node was made the owner: its chain ends at the word e
-  abbrev pub Granted : Bool → ℕ → Desk P → Type 0
-  Granted with_job e d = (d.status ≡ e + 4) × Home d.answer × (d.answered ≡ none) × Keeps with_job d
+  abbrev pub Granted : Option P → ℕ → Desk P → Type 0
+  Granted job e d = (d.status ≡ e + 4) × Home d.answer × (d.answered ≡ none) × Keeps job d
 
-  -- the owner's own job, where it has posted one and taken it back
-  abbrev pub Mine : Option P → Desk P → Type 0
-  Mine None d = Home d.job × (d.posted ≡ none)
-  Mine (Some j) d = IsOut d.job × (d.posted ≡ some j)
+  -- the owner's posted job that has not run
+  abbrev pub owed : OwnSlot P → Maybe P
+  owed Unused = none
+  owed InHand = none
+  owed (Unrun j) = some j
+
+  -- the owner's own job slot, and what it has posted
+  abbrev pub Mine : OwnSlot P → Desk P → Type 0
+  Mine Unused d = Home d.job × (d.posted ≡ none)
+  Mine InHand d = IsOut d.job × (d.posted ≡ none)
+  Mine (Unrun j) d = IsOut d.job × (d.posted ≡ some j)
+
+  -- the job that a node has posted either has not run, or its answer waits
+  abbrev pub Noted : Option P → Desk P → Type 0
+  Noted None d = Unit {0}
+  Noted (Some j) d = (d.posted ≡ some j) ⊎ ((a : P) × (d.answered ≡ some (j, a)))
 
   -- what is so of a pass's own node, by where the pass stands
   abbrev pub Seated : Stage P → Desk P → Type 0
   Seated Idle d = AtRest d
   Seated Holding d = IsOut d.job × Clear d
   Seated (Cleared with_job) d = JobAt with_job d × Clear d × (d.link ≡ 0)
-  Seated (Ready with_job) d = JobAt with_job d × Clear d × (d.link ≡ 0) × (d.status ≡ kind with_job)
-  Seated (Behind b with_job) d = Unit {0}
+  Seated (Ready with_job) d = JobAt with_job d × Clear d × (d.link ≡ 0) × (d.status ≡ entering with_job)
+  Seated (Behind b job) d = Noted job d
   Seated (Owns r) d = Mine r.mine d × Home d.answer × (d.answered ≡ none)
-  Seated (Done a) d = Home d.job × IsOut d.answer × (d.posted ≡ none) × (d.answered ≡ some a)
+  Seated (Done j a) d = Home d.job × IsOut d.answer × (d.posted ≡ none) × (d.answered ≡ some (j, a))
 
-  abbrev pub AllWait : (ℕ → Desk P) → List Waiter → Type 0
+  abbrev pub AllWait : (ℕ → Desk P) → List (Waiter P) → Type 0
   AllWait at [] = Unit {0}
   AllWait at (x ∷ xs) = Waits x.1 x.2 (at x.0) × AllWait at xs
 
-  abbrev pub AllDone : (ℕ → Desk P) → List Waiter → Type 0
+  abbrev pub AllDone : (ℕ → Desk P) → List (Waiter P) → Type 0
   AllDone at [] = Unit {0}
-  AllDone at (x ∷ xs) = (x.2 ≡ true) × Finished (at x.0) × AllDone at xs
+  AllDone at (x ∷ xs) = ((j : P) × (x.2 ≡ Some j) × Finished j (at x.0)) × AllDone at xs
 
   -- the older line, with the node whose slots the owner has taken
-  abbrev pub front : Option (Next P) → List Waiter → List Waiter
+  abbrev pub front : Option (Next P) → List (Waiter P) → List (Waiter P)
   front None xs = xs
-  front (Some x) xs = (x.node, x.behind, true) ∷ xs
+  front (Some x) xs = (x.node, x.behind, Some x.job) ∷ xs
 
   abbrev pub HasTaken : (ℕ → Desk P) → Option (Next P) → Type 0
   HasTaken at None = Unit {0}
@@ -153,12 +173,12 @@ module _ {P : Type 0} (g : Weight P) where
   abbrev pub weigh : View P → ℕ
   weigh v = g v.number v.stage
 
-  abbrev pub line_weight : List Waiter → ℕ
+  abbrev pub line_weight : List (Waiter P) → ℕ
   line_weight xs = total (λ x. g x.0 (Behind x.1 x.2)) xs
 
   -- only a pass that waits or owns counts
   abbrev pub Waking : Type 0
-  Waking = (n : ℕ) → (g n Idle ≡ 0) × (g n Holding ≡ 0) × ((j : Bool) → g n (Cleared j) ≡ 0) × ((j : Bool) → g n (Ready j) ≡ 0) × ((a : P) → g n (Done a) ≡ 0)
+  Waking = (n : ℕ) → (g n Idle ≡ 0) × (g n Holding ≡ 0) × ((j : Bool) → g n (Cleared j) ≡ 0) × ((j : Bool) → g n (Ready j) ≡ 0) × ((j a : P) → g n (Done j a) ≡ 0)
 
   abbrev pub owner_weight : Owner P → ℕ
   owner_weight nobody = 0
@@ -166,7 +186,7 @@ module _ {P : Type 0} (g : Weight P) where
   owner_weight (granted n b j e) = g n (Behind b j)
 
 -- the older line, which the owner took, and the newer one, from central down to the mark
-pub record Queued (nodes : ℕ) (words : List ℕ) (older newer : List Waiter) (first end mark : ℕ) : Type 0 where
+pub record Queued {P : Type 0} (nodes : ℕ) (words : List ℕ) (older newer : List (Waiter P)) (first end mark : ℕ) : Type 0 where
   pub old_line : Line first older end
   pub new_line : Line (slice_index words 0) newer mark
   pub marked : 0 < mark
@@ -177,7 +197,7 @@ pub record Queued (nodes : ℕ) (words : List ℕ) (older newer : List Waiter) (
   pub taken : 0 < length older → mark ≡ 1
 
 module _ {P : Type 0} where
-  abbrev pub Held : ℕ → List ℕ → List (Maybe (Option P)) → (ℕ → Desk P) → List Waiter → List Waiter → P → Owner P → Type 0
+  abbrev pub Held : ℕ → List ℕ → List (Maybe (Option P)) → (ℕ → Desk P) → List (Waiter P) → List (Waiter P) → P → Owner P → Type 0
   Held nodes words homes at older newer value nobody = (slice_index words 0 ≡ 0) × (older ≡ []) × (newer ≡ []) × AtHome homes value
   Held nodes words homes at older newer value (turn n r) =
       Queued nodes words (front r.next older) newer r.first r.end r.mark × ((r.mark ≡ 1) ⊎ (r.mark ≡ n + 2)) × (r.others_came ≡ true → 0 < length newer) × (get_elem? homes 0 ≡ some none) × (r.value ≡ value)
@@ -187,13 +207,13 @@ module _ {P : Type 0} where
 module _ {P : Type 0} (rule : Goods P → Type 0) where
   pub record Lawful (nodes : ℕ) (s : State (Option P) (View P)) : Type 0 where
     pub owner : Owner P
-    pub older : List Waiter
-    pub newer : List Waiter
+    pub older : List (Waiter P)
+    pub newer : List (Waiter P)
     -- the nodes whose jobs have run, and that have not polled since
-    pub done : List Waiter
+    pub done : List (Waiter P)
     pub value : P
     pub posted : ℕ → Maybe P
-    pub answered : ℕ → Maybe P
+    pub answered : ℕ → Maybe (P × P)
     pub wide : length s.words ≡ 1 + 2 * nodes
     pub long : length s.homes ≡ 1 + 2 * nodes
     -- each number below N is covered by one pass

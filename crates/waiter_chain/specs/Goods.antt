@@ -1,49 +1,47 @@
 -- What a chain carries, as plain data, and the laws of a rule over it.
-use Rattle.std.specs.Prelude.{◌≡◌, ◌≢◌, ℕ, zero, suc, ◌+◌, ◌<◌, List, [], ◌∷◌, ◌++◌, map, length, slice_set, nat_eq, cond}
+use Rattle.std.specs.Prelude.{◌≡◌, ◌≢◌, ℕ, zero, suc, ◌+◌, ◌<◌, List, [], ◌∷◌, ◌++◌, length, slice_set, nat_eq, cond}
 use mathlib.Core.Option.{some, none, Option as Maybe}
 use lib.ListN.{get_elem?}
 
--- what a pass has left of the quota, and the answers of its own jobs
+-- what a pass has left of the quota, and its own jobs that ran, each with its answer
 pub record Part (P : Type 0) : Type 0 where
   pub quota : ℕ
-  pub own : List P
+  pub own : List (P × P)
 
--- the value, wherever it is, the job that each node has posted and that has not run, the answer that waits for each node, and the part of each pass
+-- the value, wherever it is, the job that each node has posted and that has not run, the job of each node that has run with the answer that waits for the node, and the part of each pass
 pub record Goods (P : Type 0) : Type 0 where
   pub value : P
   pub posted : ℕ → Maybe P
-  pub answered : ℕ → Maybe P
+  pub answered : ℕ → Maybe (P × P)
   pub parts : List (Part P)
 
+module _ {A : Type 0} where
+  -- no node has one
+  abbrev pub nothing : ℕ → Maybe A
+  nothing n = none
+
+  -- the same, but y at k
+  abbrev pub put : (ℕ → Maybe A) → ℕ → Maybe A → ℕ → Maybe A
+  put f k y n = cond (nat_eq n k) y (f n)
+
+  -- the weights of what the nodes below n have, added up
+  abbrev pub below : (Maybe A → ℕ) → (ℕ → Maybe A) → ℕ → ℕ
+  below w f zero = 0
+  below w f (suc n) = below w f n + w (f n)
+
 module _ {P : Type 0} where
-  abbrev pub part : ℕ → List P → Part P
+  abbrev pub part : ℕ → List (P × P) → Part P
   part q xs = record { quota = q; own = xs }
 
-  abbrev pub goods : P → (ℕ → Maybe P) → (ℕ → Maybe P) → List (Part P) → Goods P
+  abbrev pub goods : P → (ℕ → Maybe P) → (ℕ → Maybe (P × P)) → List (Part P) → Goods P
   goods v jobs answers ps = record { value = v; posted = jobs; answered = answers; parts = ps }
-
-  -- no node has one
-  abbrev pub nothing : ℕ → Maybe P
-  nothing n = none
 
   -- no job is posted, and no answer waits
   abbrev pub resting : P → List (Part P) → Goods P
   resting v ps = goods v nothing nothing ps
 
-  -- the same, but y at k
-  abbrev pub put : (ℕ → Maybe P) → ℕ → Maybe P → ℕ → Maybe P
-  put f k y n = cond (nat_eq n k) y (f n)
-
   abbrev pub opened : P → ℕ → Goods P
   opened v q = resting v (part q [] ∷ [])
-
-  abbrev pub answers_of : List (P × P) → List P
-  answers_of xs = map (λ x. x.1) xs
-
-  -- the weights of what the nodes below n have, added up
-  abbrev pub below : (Maybe P → ℕ) → (ℕ → Maybe P) → ℕ → ℕ
-  below w f zero = 0
-  below w f (suc n) = below w f n + w (f n)
 
 module _ {P : Type 0} where
   -- what these jobs cost: a job that the owner had posted was paid for when it was posted, and is among them
@@ -61,37 +59,37 @@ module _ {P : Type 0} (relates : P → P → P → P → Type 0) where
 module _ {P : Type 0} (rule : Goods P → Type 0) (nodes : ℕ) where
   -- a node posts a job, and pays for it
   abbrev pub Posts : (P → Type 0) → Type 0
-  Posts is_job = (g : Goods P) (i q n : ℕ) (xs : List P) (job : P)
+  Posts is_job = (g : Goods P) (i q n : ℕ) (xs : List (P × P)) (job : P)
       → rule g → n < nodes → get_elem? g.parts i ≡ some (part (q + 1) xs) → is_job job → g.posted n ≡ none → g.answered n ≡ none
       → rule (goods g.value (put g.posted n (some job)) g.answered (slice_set g.parts i (part q xs)))
 
   -- the owner, with the number n, puts a value back after jobs of its own
   abbrev pub Ends : (P → P → P → P → Type 0) → Type 0
-  Ends relates = (g : Goods P) (i n before after : ℕ) (xs : List P) (ran : List (P × P)) (w : P)
+  Ends relates = (g : Goods P) (i n before after : ℕ) (xs : List (P × P)) (ran : List (P × P)) (w : P)
       → rule g → n < nodes → get_elem? g.parts i ≡ some (part before xs) → Runs relates g.value ran w → Pays (g.posted n) ran before after → g.answered n ≡ none
-      → rule (goods w (put g.posted n none) g.answered (slice_set g.parts i (part after (xs ++ answers_of ran))))
+      → rule (goods w (put g.posted n none) g.answered (slice_set g.parts i (part after (xs ++ ran))))
 
   -- the job of the node n was run on the value
   abbrev pub Serves : (P → P → P → P → Type 0) → Type 0
   Serves relates = (g : Goods P) (n : ℕ) (job answer w : P)
       → rule g → n < nodes → g.posted n ≡ some job → g.answered n ≡ none → relates g.value job answer w
-      → rule (goods w (put g.posted n none) (put g.answered n (some answer)) g.parts)
+      → rule (goods w (put g.posted n none) (put g.answered n (some (job, answer))) g.parts)
 
-  -- a node takes its answer into its own list
+  -- a node takes its job and the answer into its own list
   abbrev pub Collects : Type 0
-  Collects = (g : Goods P) (i q n : ℕ) (xs : List P) (answer : P)
-      → rule g → n < nodes → get_elem? g.parts i ≡ some (part q xs) → g.answered n ≡ some answer
-      → rule (goods g.value g.posted (put g.answered n none) (slice_set g.parts i (part q (xs ++ answer ∷ []))))
+  Collects = (g : Goods P) (i q n : ℕ) (xs : List (P × P)) (job answer : P)
+      → rule g → n < nodes → get_elem? g.parts i ≡ some (part q xs) → g.answered n ≡ some (job, answer)
+      → rule (goods g.value g.posted (put g.answered n none) (slice_set g.parts i (part q (xs ++ (job, answer) ∷ []))))
 
 module _ {P : Type 0} (rule : Goods P → Type 0) where
   -- a pass is cut in two
   abbrev pub Cuts : Type 0
-  Cuts = (g : Goods P) (i q r : ℕ) (xs : List P)
+  Cuts = (g : Goods P) (i q r : ℕ) (xs : List (P × P))
       → rule g → get_elem? g.parts i ≡ some (part (q + r) xs)
       → rule (goods g.value g.posted g.answered (slice_set g.parts i (part q xs) ++ part r [] ∷ []))
 
   -- a pass takes in another
   abbrev pub Merges : Type 0
-  Merges = (g : Goods P) (i j q r : ℕ) (xs ys : List P)
+  Merges = (g : Goods P) (i j q r : ℕ) (xs ys : List (P × P))
       → rule g → j ≢ i → get_elem? g.parts i ≡ some (part q xs) → get_elem? g.parts j ≡ some (part r ys)
       → rule (goods g.value g.posted g.answered (slice_set (slice_set g.parts i (part (q + r) (xs ++ ys))) j (part 0 [])))

@@ -2,3 +2,4 @@ pub mod Goods
 pub mod Chains
 pub mod Steps
 pub mod Calls
+pub mod Shows

@@ -1,17 +1,18 @@
 //! The calls on a chain.
 ghost use Rattle.std.specs.Prelude.{◌≡◌, ◌≢◌, ◌⊎◌, ℕ, ◌+◌, ◌-◌, ◌*◌, ◌^◌, ◌<◌, ◌≤◌, [], ◌∷◌, ◌++◌, ◌↔◌, IsTrue, true, false, length, MatchResult};
 ghost use Rattle.waiter_chain.specs.Goods.{Goods};
-ghost use Rattle.waiter_chain.specs.Chains.{covers};
-ghost use Rattle.waiter_chain.specs.Steps.{cut_left, cut_right, joined, entry};
-ghost use Rattle.waiter_chain.specs.Calls.{IsIdle, IsBehind, HasTurn, OwnsBy, TriedIn, WasBusy, EnteredAs, ArrivedAs, PolledAs, FollowsAs, MayEnd, Ended, SawOthers, TookAs};
+ghost use Rattle.waiter_chain.specs.Chains.{covers, entering};
+ghost use Rattle.waiter_chain.specs.Steps.{cut_left, cut_right, joined, entry, waits_to_enter};
+ghost use Rattle.waiter_chain.specs.declared.turn.Kind.TheVariants.{Plain, WithJob};
+ghost use Rattle.waiter_chain.specs.Calls.{IsIdle, IsBehind, HasTurn, OwnsBy, TriedIn, WasBusy, MayEnter, readied_state, EnteredAs, WaitsBehind, linked_state, ArrivedAs, PolledAs, FollowsAs, MayEnd, Ended, SawOthers, TookAs};
 ghost use Rattle.waiter_chain.specs.declared.view.Ownership.{Ownership};
 ghost use Rattle.waiter_chain.specs.declared.view.Event.TheVariants as event;
 ghost use Rattle.waiter_chain.specs.declared.view.Stage.TheVariants.{Owns};
 
 use crate::freight::Freight;
 use crate::plays::{
-    Amount, Count, Cut, Free, Grant, Known, Look, Merge, Poll, Ran, Rule, SetStatus, SwapIn, Take,
-    TryIn,
+    Amount, ClearLink, Count, Cut, Free, Grant, Known, Link, Look, Merge, Poll, Post, Ran, Rule,
+    SetStatus, SwapIn, Take, TryIn,
 };
 use crate::runs::OwnRuns;
 use crate::turn::{Arrived, DistBusy, Entered, Follow, Kind, Polled, Turn};
@@ -32,10 +33,11 @@ use std::marker::Brand;
 /// | | n + 2 | locked, and node n was the last to swap itself in |
 /// | status of node n, 1 + 2 n | 0 or what an earlier ownership left | idle, or owner |
 /// | | 1 | waits |
-/// | | 2 | waits with a job; no call makes it so yet |
-/// | | 3 | another pass has run its job; no call makes it so yet |
+/// | | 2 | waits with a job |
+/// | | 3 | another pass has run its job, whose answer lies in its answer slot |
 /// | | 4 + e | it was made the owner, and its chain ends at the word e |
-/// | link of node n, 2 + 2 n | 0 | no call stores a link yet |
+/// | link of node n, 2 + 2 n | 0 | it enters, or has not linked |
+/// | | another | it waits, or waited, behind this word |
 pub struct Chain<P: Freight> {
     pub(crate) table: Table<Option<P>, View<P>, Opening<P>, Rule<P>, Global>,
     pub(crate) nodes: u64,
@@ -44,14 +46,22 @@ pub struct Chain<P: Freight> {
 }
 
 /// The token of one node, and of the spare nodes after it. Each call that promises something of the caller takes it.
+#[derive(Drop)]
 pub struct ChainPass<P> {
     pub(crate) seat: Seat<Option<P>, View<P>>,
     pub(crate) number: u64,
     pub(crate) spare: u64,
     pub(crate) quota: u64,
     pub(crate) behind: u64,
-    ghost same: { (seat.me.0.number ≡ number) × (seat.me.0.spare ≡ spare) × (seat.me.0.quota ≡ quota) × (seat.me.0.gone ≡ false) × (seat.me.0.linked ≡ false) },
+    ghost same: { (seat.me.0.number ≡ number) × (seat.me.0.spare ≡ spare) × (seat.me.0.quota ≡ quota) × (seat.me.0.gone ≡ false) },
     ghost low: { 2 * (number + spare) + 1 < seat.table_id.slots },
+}
+
+// The status of a node that enters with a job, or without one.
+fn entering(with_job: bool) -> u64
+    ensures { result ≡ entering with_job }
+{
+    if with_job { 2 } else { 1 }
 }
 
 impl<P> ChainPass<P> {
@@ -123,7 +133,7 @@ impl<P: Freight> Chain<P> {
     fn merge(&self, pass: &mut ChainPass<P>, other: Seat<Option<P>, View<P>>, quota: u64)
         requires own { (pass.old.seat.table_id ≡ self.now.table.shared.table_id) × (other.table_id ≡ self.now.table.shared.table_id) }
         requires idle { IsIdle pass.old.seat.me × IsIdle other.me }
-        requires live { (other.me.0.gone ≡ false) × (other.me.0.linked ≡ false) × (other.me.0.quota ≡ quota) }
+        requires live { (other.me.0.gone ≡ false) × (other.me.0.quota ≡ quota) }
         ensures own { (pass.new.seat.table_id ≡ pass.old.seat.table_id) × (pass.new.seat.id ≡ pass.old.seat.id) }
         ensures joined { pass.new.seat.me ≡ (joined pass.old.seat.me.0 other.me.0, []) }
         ensures covers { (n : ℕ) → covers n pass.new.seat.me.0 ≡ covers n pass.old.seat.me.0 + covers n other.me.0 }
@@ -184,18 +194,33 @@ impl<P: Freight> Chain<P> {
         self.try_as::<Brand>(pass)
     }
 
+    // It stores 0 in its own link, and then how it enters in its own status.
+    fn ready(&self, pass: &mut ChainPass<P>, with_job: bool)
+        requires own { pass.old.seat.table_id ≡ self.now.table.shared.table_id }
+        requires start { pass.old.seat.me.0.stage ≡ waits_to_enter with_job }
+        ensures own { (pass.new.seat.table_id ≡ pass.old.seat.table_id) × (pass.new.seat.id ≡ pass.old.seat.id) }
+        ensures same { (pass.new.number ≡ pass.old.number) × (pass.new.quota ≡ pass.old.quota) }
+        ensures readied { pass.new.seat.me ≡ readied_state with_job pass.old.seat.me }
+    {
+        let status = 1 + 2 * pass.number as usize;
+        let kind = entering(with_job);
+        self.table
+            .shared
+            .store::<ClearLink>(&mut pass.seat, status + 1, 0);
+        self.table
+            .shared
+            .store::<SetStatus>(&mut pass.seat, status, kind);
+    }
+
     fn enter_as<M: Known<P>>(&self, pass: &mut ChainPass<P>) -> Entered
         requires own { pass.old.seat.table_id ≡ self.now.table.shared.table_id }
         requires idle { IsIdle pass.old.seat.me }
         requires known { (g : Goods P) → P.rule self.now.table.shared.key g → M.known g }
         ensures own { (pass.new.seat.table_id ≡ pass.old.seat.table_id) × (pass.new.seat.id ≡ pass.old.seat.id) }
-        ensures answer { EnteredAs M.known self.now.table.shared.table_id.slots pass.new.behind pass.old.seat.me pass.new.seat.me result }
+        ensures answer { EnteredAs M.known self.now.table.shared.table_id.slots Plain pass.new.behind pass.old.seat.me pass.new.seat.me result }
     {
-        let status = 1 + 2 * pass.number as usize;
         let new = pass.number + 2;
-        self.table
-            .shared
-            .store::<SetStatus>(&mut pass.seat, status, 1);
+        self.ready(pass, false);
         let found = self.table.shared.swap::<SwapIn<M>>(&mut pass.seat, 0, new);
         if found == 0 {
             Entered::Owner(Turn {
@@ -209,29 +234,69 @@ impl<P: Freight> Chain<P> {
         }
     }
 
-    /// Two steps: a store of 1 into its own status, and a swap of its own number + 2 into the central word. It is the
-    /// owner exactly where the swap found 0.
+    fn post_as<M: Known<P>>(&self, pass: &mut ChainPass<P>) -> Entered
+        requires own { pass.old.seat.table_id ≡ self.now.table.shared.table_id }
+        requires enters { MayEnter P.is_job WithJob pass.old.seat.me }
+        requires known { (g : Goods P) → P.rule self.now.table.shared.key g → M.known g }
+        ensures own { (pass.new.seat.table_id ≡ pass.old.seat.table_id) × (pass.new.seat.id ≡ pass.old.seat.id) }
+        ensures answer { EnteredAs M.known self.now.table.shared.table_id.slots WithJob pass.new.behind pass.old.seat.me pass.new.seat.me result }
+    {
+        let place = pass.number + 2;
+        self.ready(pass, true);
+        let found = self.table.shared.swap::<Post<M>>(&mut pass.seat, 0, place);
+        pass.quota -= 1;
+        if found != 0 {
+            pass.behind = found;
+            return Entered::Behind;
+        }
+        Entered::Owner(Turn {
+            first: place,
+            end: place,
+            mark: place,
+        })
+    }
+
+    /// Three steps: a store of 0 into its own link, one of 1, or of 2 with a job, into its own status, and a swap of its
+    /// own number + 2 into the central word. It is the owner exactly where the swap found 0. With a job, the job lies in
+    /// its own job slot and is paid for by the swap.
     pub fn enter(&self, pass: &mut ChainPass<P>, kind: Kind) -> Entered
         requires own { pass.old.seat.table_id ≡ self.now.table.shared.table_id }
-        requires idle { IsIdle pass.old.seat.me }
+        requires enters { MayEnter P.is_job kind pass.old.seat.me }
         ensures own { (pass.new.seat.table_id ≡ pass.old.seat.table_id) × (pass.new.seat.id ≡ pass.old.seat.id) }
-        ensures answer { EnteredAs (P.rule self.now.table.shared.key) self.now.table.shared.table_id.slots pass.new.behind pass.old.seat.me pass.new.seat.me result }
+        ensures answer { EnteredAs (P.rule self.now.table.shared.key) self.now.table.shared.table_id.slots kind pass.new.behind pass.old.seat.me pass.new.seat.me result }
     {
         match kind {
             Kind::Plain => self.enter_as::<Brand>(pass),
+            Kind::WithJob => self.post_as::<Brand>(pass),
         }
     }
 
-    /// `enter`, after which a pass can be polled. It is all that a node does to wait as long as no node stores a link.
+    /// One store of the word that its swap found into its own link, by a pass that waits.
+    pub fn link(&self, pass: &mut ChainPass<P>)
+        requires own { pass.old.seat.table_id ≡ self.now.table.shared.table_id }
+        requires behind { WaitsBehind pass.old.behind pass.old.seat.me }
+        ensures own { (pass.new.seat.table_id ≡ pass.old.seat.table_id) × (pass.new.seat.id ≡ pass.old.seat.id) × (pass.new.behind ≡ pass.old.behind) }
+        ensures linked { pass.new.seat.me ≡ linked_state pass.old.behind pass.old.seat.me }
+    {
+        let link = 2 + 2 * pass.number as usize;
+        self.table
+            .shared
+            .store::<Link>(&mut pass.seat, link, pass.behind);
+    }
+
+    /// `enter`, and then `link` where the pass waits behind another.
     pub fn arrive(&self, pass: &mut ChainPass<P>, kind: Kind) -> Arrived
         requires own { pass.old.seat.table_id ≡ self.now.table.shared.table_id }
-        requires idle { IsIdle pass.old.seat.me }
+        requires enters { MayEnter P.is_job kind pass.old.seat.me }
         ensures own { (pass.new.seat.table_id ≡ pass.old.seat.table_id) × (pass.new.seat.id ≡ pass.old.seat.id) }
-        ensures answer { ArrivedAs (P.rule self.now.table.shared.key) self.now.table.shared.table_id.slots pass.new.behind pass.old.seat.me pass.new.seat.me result }
+        ensures answer { ArrivedAs (P.rule self.now.table.shared.key) self.now.table.shared.table_id.slots kind pass.new.behind pass.old.seat.me pass.new.seat.me result }
     {
         match self.enter(pass, kind) {
             Entered::Owner(turn) => Arrived::Owner(turn),
-            Entered::Behind => Arrived::Waiting,
+            Entered::Behind => {
+                self.link(pass);
+                Arrived::Waiting
+            }
         }
     }
 

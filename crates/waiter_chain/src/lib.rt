@@ -7,8 +7,9 @@
 //! exactly the waiting nodes and those whose jobs have run, and it says of each node what stands in its words and its
 //! slots. `specs/Goods.antt` has the laws of what a chain carries.
 //!
-//! The rule is that of a chain whose nodes may post jobs for the owner to run. No call posts one yet: each pass enters
-//! to have the lock itself.
+//! A node may post a job as it enters. The owner may run it, in `serving`, and then the node is done; or it makes that
+//! node the owner, which finds its job unrun in its own slot. `specs/Shows.antt` says in plain words what the rule says
+//! between any two steps.
 //!
 //! The contracts promise of each call exactly the steps that it makes, in the pass's own list of steps, and what it
 //! answers for which word. Nothing is promised of a wait's end.
@@ -19,6 +20,7 @@ pub mod freight;
 pub mod make;
 mod plays;
 pub mod runs;
+pub mod serving;
 #[cfg(test)]
 mod tests;
 pub mod turn;

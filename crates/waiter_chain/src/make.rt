@@ -2,7 +2,8 @@
 ghost use Rattle.std.specs.Prelude.{◌≡◌, ◌≢◌, ℕ, ◌+◌, ◌-◌, ◌*◌, ◌<◌, ◌≤◌, [], ◌∷◌, IfOk, Some, None, replicate};
 ghost use Rattle.waiter_chain.specs.Steps.{first_view};
 ghost use Rattle.waiter_chain.specs.Calls.{IsIdle};
-ghost use Rattle.waiter_chain.specs.Chains.{Closes, covers};
+ghost use Rattle.waiter_chain.specs.Chains.{Closes, Lawful, covers};
+ghost use Rattle.waiter_chain.specs.Shows.{ChainShows};
 
 use crate::chain::{Chain, ChainPass};
 use crate::freight::Freight;
@@ -34,8 +35,8 @@ fn slots<P: Drop>(alloc: Global, count: u64, first: P) -> Result<Vec<Option<P>>,
     Ok(slots)
 }
 
-/// What a close leaves of the closing pass, for the proofs: its list of answers among all that its view has. It comes
-/// only from a close.
+/// What a close leaves of the closing pass, for the proofs: its list of jobs and answers among all that its view has. It
+/// comes only from a close.
 #[derive(Drop)]
 pub struct Retired<P> {
     pub(crate) combine: u32,
@@ -65,6 +66,8 @@ impl<P: Freight + Drop> Chain<P> {
         requires admits { P.admits first quota }
         ensures made { IfOk result (λ r. (r.1.seat.table_id ≡ r.0.table.shared.table_id) × (r.1.seat.me ≡ (first_view nodes quota, [])) × (r.0.table.shared.key.first.value ≡ first) × (r.0.table.shared.key.quota ≡ quota) × (r.0.nodes ≡ nodes) × (r.0.combine ≡ combine)) }
         ensures covers { IfOk result (λ r. (n : ℕ) → n < nodes → 0 < covers n r.1.seat.me.0) }
+        // What the rule says that the table keeps from now on, between any two steps of any passes.
+        ensures shows { IfOk result (λ r. (s : _) → Lawful (P.rule r.0.table.shared.key) r.0.table.shared.key.nodes s → ChainShows s) }
     {
         let opening = Opening {
             nodes,

@@ -1,7 +1,7 @@
 //! The rule of a chain's table, and what each step tells.
 ghost use Rattle.std.specs.Prelude.{List};
 ghost use Rattle.waiter_chain.specs.Chains.{Lawful};
-ghost use Rattle.waiter_chain.specs.Steps.{first_view, cut_left, cut_right, joined, spent, tried, readied, swapped, polled, freed, took, handed, looked, counted};
+ghost use Rattle.waiter_chain.specs.Steps.{first_view, cut_left, cut_right, joined, spent, tried, cleared, readied, swapped, posting, linking, polled, polled_job, holding, freed, took, handed, looked, counted, kind_seen, link_seen, job_done, rested};
 
 use crate::freight::Freight;
 use crate::view::{Opening, View};
@@ -88,6 +88,12 @@ impl<P, M: Known<P>> Play<Option<P>, View<P>> for TryIn<M> {
     ghost then = { tried M.known };
 }
 
+pub(crate) struct ClearLink;
+
+impl<P> Play<Option<P>, View<P>> for ClearLink {
+    ghost then = { cleared };
+}
+
 pub(crate) struct SetStatus;
 
 impl<P> Play<Option<P>, View<P>> for SetStatus {
@@ -136,4 +142,60 @@ pub(crate) struct Look;
 
 impl<P> Play<Option<P>, View<P>> for Look {
     ghost then = { looked };
+}
+
+pub(crate) struct Post<M> {
+    known: PhantomData<M>,
+}
+
+impl<P, M: Known<P>> Play<Option<P>, View<P>> for Post<M> {
+    ghost then = { posting M.known };
+}
+
+pub(crate) struct Link;
+
+impl<P> Play<Option<P>, View<P>> for Link {
+    ghost then = { linking };
+}
+
+pub(crate) struct PollJob<M> {
+    known: PhantomData<M>,
+}
+
+impl<P, M: Known<P>> Play<Option<P>, View<P>> for PollJob<M> {
+    ghost then = { polled_job M.known };
+}
+
+pub(crate) struct Hold;
+
+impl<P> Play<Option<P>, View<P>> for Hold {
+    ghost then = { holding };
+}
+
+pub(crate) struct KindOf;
+
+impl<P> Play<Option<P>, View<P>> for KindOf {
+    ghost then = { kind_seen };
+}
+
+pub(crate) struct LinkOf<M> {
+    known: PhantomData<M>,
+}
+
+impl<P, M: Known<P>> Play<Option<P>, View<P>> for LinkOf<M> {
+    ghost then = { link_seen M.known };
+}
+
+pub(crate) struct Serve<M> {
+    ran: PhantomData<M>,
+}
+
+impl<P, M: Ran<P>> Play<Option<P>, View<P>> for Serve<M> {
+    ghost then = { job_done M.ran };
+}
+
+pub(crate) struct Rest;
+
+impl<P> Play<Option<P>, View<P>> for Rest {
+    ghost then = { rested };
 }

@@ -32,7 +32,7 @@ impl Freight for Mark {
 
     ghost serves = { λ o g n job answer w r low filled unanswered related. tt };
 
-    ghost collects = { λ o g i q n xs answer r low me filled. tt };
+    ghost collects = { λ o g i q n xs job answer r low me filled. tt };
 
     ghost cuts = { λ o g i q r xs s me. tt };
 
@@ -96,14 +96,17 @@ fn waiters_are_granted_in_turn(rt: HostRuntime) -> Result<(), Fail> {
     }
     match chain.poll(&mut one) {
         Polled::Owner(_turn) => panic!(rt; "node 1 was granted"),
+        Polled::Done => panic!(rt; "node 1 has no job"),
         Polled::Still { word } => assert!(rt; word == 1),
     }
     match chain.poll(&mut two) {
         Polled::Owner(_turn) => panic!(rt; "node 2 was granted"),
+        Polled::Done => panic!(rt; "node 2 has no job"),
         Polled::Still { word } => assert!(rt; word == 1),
     }
     match chain.poll(&mut three) {
         Polled::Owner(_turn) => panic!(rt; "node 3 was granted"),
+        Polled::Done => panic!(rt; "node 3 has no job"),
         Polled::Still { word } => assert!(rt; word == 1),
     }
 
@@ -112,14 +115,17 @@ fn waiters_are_granted_in_turn(rt: HostRuntime) -> Result<(), Fail> {
     assert!(rt; chain.table.shared.peek(7) == 5 && central(&chain) == 1);
     match chain.poll(&mut three) {
         Polled::Still { word: _ } => panic!(rt; "node 3 still waits"),
+        Polled::Done => panic!(rt; "node 3 has no job"),
         Polled::Owner(turn) => assert!(rt; pass_on(&chain, &mut three, turn) == Some(2)),
     }
     match chain.poll(&mut two) {
         Polled::Still { word: _ } => panic!(rt; "node 2 still waits"),
+        Polled::Done => panic!(rt; "node 2 has no job"),
         Polled::Owner(turn) => assert!(rt; pass_on(&chain, &mut two, turn) == Some(1)),
     }
     match chain.poll(&mut one) {
         Polled::Still { word: _ } => panic!(rt; "node 1 still waits"),
+        Polled::Done => panic!(rt; "node 1 has no job"),
         Polled::Owner(turn) => assert!(rt; pass_on(&chain, &mut one, turn).is_none()),
     }
     assert!(rt; central(&chain) == 0);

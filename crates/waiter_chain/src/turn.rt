@@ -19,6 +19,8 @@ pub struct DistBusy {
 pub enum Kind {
     /// It waits for the lock itself.
     Plain,
+    /// It posts a job, and waits until the job has run, or for the lock.
+    WithJob,
 }
 
 /// What a pass is once it has entered.
@@ -41,6 +43,8 @@ pub enum Arrived {
 pub enum Polled {
     /// It still waits.
     Still { word: u64 },
+    /// Another owner has run its job, and its answer is in its hand.
+    Done,
     /// Another owner made it the owner.
     Owner(Turn),
 }
@@ -54,12 +58,20 @@ pub enum Follow {
 }
 
 impl Turn {
-    ghost use Rattle.std.specs.Prelude.{◌≡◌, ◌↔◌, IsTrue};
+    ghost use Rattle.std.specs.Prelude.{◌≡◌, ◌↔◌, ◌-◌, ◌<◌, IsTrue};
 
     /// Whether no node waits in the owner's own chain. Nodes that came since may wait behind it.
     pub fn is_empty(&self) -> bool
         ensures { IsTrue result ↔ (self.now.first ≡ self.now.end) }
     {
         self.first == self.end
+    }
+
+    /// The next node of the owner's chain, where that is not empty.
+    pub fn node(&self) -> u64
+        requires { 1 < self.now.first }
+        ensures { result ≡ self.now.first - 2 }
+    {
+        self.first - 2
     }
 }

@@ -27,6 +27,14 @@ pub enum Event {
     TakeChain,
     /// A store into the next node's status, which makes that node the owner.
     Grant,
+    /// A store into its own link.
+    StoreLink,
+    /// A load of the next node's status.
+    LoadKind,
+    /// A load of the next node's link.
+    LoadLink,
+    /// A store of 3 into the status of the next node, whose job has run.
+    Serve,
 }
 
 /// One step of a pass, as its list of steps keeps it.
@@ -49,6 +57,16 @@ pub struct Next<P> {
     pub job: P,
 }
 
+/// An owner's own job slot.
+pub enum OwnSlot<P> {
+    /// It is at home.
+    Unused,
+    /// The owner has it in hand, and has posted no job that has not run.
+    InHand,
+    /// The owner has it in hand, and this job was posted and has not run.
+    Unrun(P),
+}
+
 /// What an owner knows.
 pub struct Ownership<P> {
     /// The next node is `first - 2`, unless `first` is `end`.
@@ -62,8 +80,7 @@ pub struct Ownership<P> {
     pub job_waits: bool,
     /// The next node, once the owner has taken its slots.
     pub next: Option<Next<P>>,
-    /// The owner's own posted job, once it has taken it back.
-    pub mine: Option<P>,
+    pub mine: OwnSlot<P>,
     /// What the owner took out of slot 0.
     pub value: P,
 }
@@ -78,11 +95,11 @@ pub enum Stage<P> {
     /// Its link is 0 and its status says how it enters, and it has not swapped itself in yet. Where it enters with a job it has its own job
     /// slot in hand.
     Ready(bool),
-    /// It waits. The word that its swap found, and whether it has posted a job.
-    Behind(u64, bool),
+    /// It waits. The word that its swap found, and the job that it has posted, where it has posted one.
+    Behind(u64, Option<P>),
     Owns(Ownership<P>),
-    /// Another pass ran its job. It has its own answer slot in hand, in which this answer stood.
-    Done(P),
+    /// Another pass ran its job. It has its own answer slot in hand, in which the answer stood: the job and this answer.
+    Done(P, P),
 }
 
 pub struct View<P> {
@@ -98,8 +115,8 @@ pub struct View<P> {
     /// How many jobs it may still run.
     pub quota: u64,
     pub stage: Stage<P>,
-    /// The answers of its own jobs, the earliest first.
-    pub own: LinkedList<P>,
+    /// Its own jobs that ran, each with its answer, the earliest first.
+    pub own: LinkedList<(P, P)>,
     /// Its steps, the earliest first.
     pub steps: LinkedList<Entry>,
 }

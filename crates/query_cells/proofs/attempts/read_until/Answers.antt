@@ -5,6 +5,7 @@ use Rattle.sync_cell.specs.Refused.{reader_late}
 use Rattle.query_rules.specs.Maps.{no_entries}
 use Rattle.map_cargo.specs.Gaining.{gained_by}
 use Rattle.query_cells.proofs.Taking.{gained_later, late_reads, unchanged_look, unchanged_once, unchanged_then}
+use Rattle.sync_cell.specs.TrailLaws.{enters_treads, looked_weak}
 use Rattle.query_cells.proofs.attempts.read_until.Goals as goal
 
 pub returns-in-Ok-clause-taken : goal.returns-in-Ok-clause-taken
@@ -22,3 +23,9 @@ pub returns-in-Err-clause-reads : goal.returns-in-Err-clause-reads
 returns-in-Err-clause-reads g c =
     let s = c.in-Err.ensures.step in let v = view c.args.pass.now in let w = view c.rlock_until.new.pass in
     late_reads v w c.args.cell c.in-Err.late.fault (reader_late _ v c.args.cell w c.in-Err.late.fault s.0 c.requires.away s.1)
+
+pub returns-in-Ok-clause-trail : goal.returns-in-Ok-clause-trail
+returns-in-Ok-clause-trail g c = let s = c.in-Ok.ensures.step in enters_treads _ (view c.args.pass.now) (view c.rlock_until.new.pass) c.args.cell s.0 c.requires.away s.1
+
+pub returns-in-Err-clause-trail : goal.returns-in-Err-clause-trail
+returns-in-Err-clause-trail g c = looked_weak (view c.args.pass.now) (view c.rlock_until.new.pass) c.args.cell c.requires.away c.in-Err.ensures.step.2

@@ -6,6 +6,8 @@ use Rattle.shared_mutex.specs.Refused.{reader_refused}
 use Rattle.query_rules.specs.Maps.{no_entries}
 use Rattle.map_cargo.specs.Gaining.{gained_by}
 use Rattle.query_cells.proofs.Taking.{busy_reads, gained_later, reader_unchanged, turned_away, unchanged_once, unchanged_then}
+use Rattle.hall.specs.Treading.{IsWeakAt, treads_then}
+use Rattle.sync_cell.specs.TrailLaws.{takes_shared_treads, refuses_shared_treads}
 use Rattle.query_cells.proofs.attempts.try_to_read.Goals as goal
 
 pub returns-in-Ok-clause-taken : goal.returns-in-Ok-clause-taken
@@ -38,4 +40,15 @@ loop-preserved g c =
       away = search rules;
       quiet = unchanged_then (view c.args.pass.now) u (view c.try_rlock.new.pass) c.loop.invariant.quiet (reader_unchanged _ u c.args.cell (view c.try_rlock.new.pass) e.field-0 e.ensures.step);
       elsewhere = search rules;
+      trail = treads_then (IsWeakAt c.args.cell) (view c.args.pass.now) u (view c.try_rlock.new.pass) c.loop.invariant.trail (refuses_shared_treads _ u (view c.try_rlock.new.pass) c.args.cell e.field-0 c.loop.invariant.away e.ensures.step);
     }
+
+pub returns-in-Ok-clause-trail : goal.returns-in-Ok-clause-trail
+returns-in-Ok-clause-trail g c =
+    let u = view c.loop.pass in let w = view c.try_rlock.new.pass in
+    treads_then (IsWeakAt c.args.cell) (view c.args.pass.now) u w c.loop.invariant.trail (takes_shared_treads _ u w c.args.cell c.loop.invariant.away c.in-Ok.ensures.step.1)
+
+pub returns-in-Err-Busy-clause-trail : goal.returns-in-Err-Busy-clause-trail
+returns-in-Err-Busy-clause-trail g c =
+    let e = c.in-Err-Busy in let u = view c.loop.pass in let w = view c.try_rlock.new.pass in
+    treads_then (IsWeakAt c.args.cell) (view c.args.pass.now) u w c.loop.invariant.trail (refuses_shared_treads _ u w c.args.cell e.field-0 c.loop.invariant.away e.ensures.step)

@@ -3,17 +3,19 @@ use Rattle.hall.specs.Passes.{view}
 use Rattle.shared_mutex.specs.Refused.{exclusive_refused}
 use Rattle.query_rules.specs.Maps.{no_entries}
 use Rattle.map_cargo.specs.Gaining.{gained_by}
-use Rattle.query_cells.proofs.Taking.{announced, busy_writes, gained_later, turned_away, unchanged_then, writer_unchanged}
+use Rattle.query_cells.proofs.Taking.{announced, busy_writes, gained_later, swept, turned_away, unchanged_then, writer_unchanged}
+use Rattle.hall.specs.Treading.{IsAt, treads_then}
+use Rattle.sync_cell.specs.TrailLaws.{takes_exclusive_treads, refuses_exclusive_treads}
 use Rattle.query_cells.proofs.attempts.try_to_write.Goals as goal
 
 pub returns-in-Ok-clause-taken : goal.returns-in-Ok-clause-taken
 returns-in-Ok-clause-taken g c =
-    let e = c.in-Ok.ensures in let s = e.step in let u = s.1.0 in let v = view c.loop.pass in (
+    let e = c.in-Ok.ensures in let s = e.step in let u = s.1.0 in let z = s.1.2 in let v = view c.loop.pass in (
       s.0,
       record {
         stands = e.stands;
         elsewhere = λ k ne. e.elsewhere k ne ∙ c.loop.invariant.elsewhere k ne;
-        gained = gained_later c.args.cell (view c.args.pass.now) u (view c.try_wlock.new.pass) (unchanged_then (view c.args.pass.now) v u c.loop.invariant.quiet (announced _ v u c.args.cell s.1.1)) (gained_by no_entries _ _ _ _ _ _ s.1.2.0);
+        gained = gained_later c.args.cell (view c.args.pass.now) z (view c.try_wlock.new.pass) (unchanged_then (view c.args.pass.now) u z (unchanged_then (view c.args.pass.now) v u c.loop.invariant.quiet (announced _ v u c.args.cell s.1.1)) (swept _ c.args.cell v.shape.slots s.1.3 u z s.1.4)) (gained_by no_entries _ _ _ _ _ _ s.1.5.0);
       },
     )
 
@@ -36,4 +38,15 @@ loop-preserved g c =
       away = search rules;
       quiet = unchanged_then (view c.args.pass.now) u (view c.try_wlock.new.pass) c.loop.invariant.quiet (writer_unchanged _ u c.args.cell (view c.try_wlock.new.pass) e.field-0 e.ensures.step);
       elsewhere = search rules;
+      trail = treads_then (IsAt c.args.cell) (view c.args.pass.now) u (view c.try_wlock.new.pass) c.loop.invariant.trail (refuses_exclusive_treads _ u (view c.try_wlock.new.pass) c.args.cell e.field-0 e.ensures.step);
     }
+
+pub returns-in-Ok-clause-trail : goal.returns-in-Ok-clause-trail
+returns-in-Ok-clause-trail g c =
+    let u = view c.loop.pass in let w = view c.try_wlock.new.pass in
+    treads_then (IsAt c.args.cell) (view c.args.pass.now) u w c.loop.invariant.trail (takes_exclusive_treads _ u w c.args.cell c.in-Ok.ensures.step.1)
+
+pub returns-in-Err-Busy-clause-trail : goal.returns-in-Err-Busy-clause-trail
+returns-in-Err-Busy-clause-trail g c =
+    let e = c.in-Err-Busy in let u = view c.loop.pass in let w = view c.try_wlock.new.pass in
+    treads_then (IsAt c.args.cell) (view c.args.pass.now) u w c.loop.invariant.trail (refuses_exclusive_treads _ u w c.args.cell e.field-0 e.ensures.step)

@@ -1,6 +1,7 @@
 use Rattle.std.proofs.Common.{◌≡◌}
 use Rattle.hall.specs.declared.view.Standing.TheVariants.{Away}
 use Rattle.hall.specs.Passes.{view, IsPassOf}
+use Rattle.hall.specs.Treading.{IsAt, Treads}
 use Rattle.hall.specs.Views.{standing}
 use Rattle.shared_mutex.specs.Acquiring.{ElsewhereSame}
 use Rattle.query_cells.proofs.Taking.{Unchanged}
@@ -15,4 +16,5 @@ invariant-loop g l = record {
   away : standing (view l.pass) l.cell ≡ Away;
   quiet : Unchanged (view l.fn.pass) (view l.pass);
   elsewhere : ElsewhereSame (view l.fn.pass) (view l.pass) l.cell;
+  trail : Treads (IsAt l.cell) (view l.fn.pass) (view l.pass);
 }

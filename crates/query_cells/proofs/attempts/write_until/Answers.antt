@@ -1,8 +1,10 @@
+use Rattle.std.proofs.Common.{refl}
 use Rattle.hall.specs.Passes.{view}
 use Rattle.sync_cell.specs.Refused.{writer_late}
 use Rattle.query_rules.specs.Maps.{no_entries}
 use Rattle.map_cargo.specs.Gaining.{gained_by}
-use Rattle.query_cells.proofs.Taking.{announced_at_last, gained_later, late_writes, unchanged_look, unchanged_then}
+use Rattle.query_cells.proofs.Taking.{announced_at_last, gained_later, late_unchanged, late_writes, turned_away, unchanged_look, unchanged_none, unchanged_then}
+use Rattle.sync_cell.specs.TrailLaws.{writes_treads, gave_up_treads}
 use Rattle.query_cells.proofs.attempts.write_until.Goals as goal
 
 pub returns-in-Ok-clause-taken : goal.returns-in-Ok-clause-taken
@@ -21,3 +23,14 @@ pub returns-in-Err-clause-reads : goal.returns-in-Err-clause-reads
 returns-in-Err-clause-reads g c =
     let v = view c.args.pass.now in let w = view c.wlock_until.new.pass in let late = c.in-Err.late in
     late_writes v w c.args.cell late.fault (writer_late _ _ _ c.args.deadline c.args.cell v w _ _ late.fault late.now c.requires.away c.in-Err.ensures.step)
+
+pub returns-in-Err-clause-taken : goal.returns-in-Err-clause-taken
+returns-in-Err-clause-taken g c =
+    let v = view c.args.pass.now in let w = view c.wlock_until.new.pass in let late = c.in-Err.late in let e = c.in-Err.ensures in
+    turned_away v v w c.args.cell (unchanged_none v) (late_unchanged _ _ _ c.args.deadline c.args.cell v w _ _ late.fault late.now e.step) (λ k ne. refl) e.elsewhere e.stands
+
+pub returns-in-Ok-clause-trail : goal.returns-in-Ok-clause-trail
+returns-in-Ok-clause-trail g c = let s = c.in-Ok.ensures.step in writes_treads _ (view c.args.pass.now) (view c.wlock_until.new.pass) c.args.cell s.0 s.1 s.2
+
+pub returns-in-Err-clause-trail : goal.returns-in-Err-clause-trail
+returns-in-Err-clause-trail g c = gave_up_treads _ (view c.args.pass.now) (view c.wlock_until.new.pass) c.args.cell _ _ c.args.deadline _ _ c.in-Err.late.fault c.in-Err.late.now c.in-Err.ensures.step

@@ -5,6 +5,8 @@ use Rattle.query_rules.specs.declared.query.Reply.TheVariants.{Busy}
 use Rattle.query_cells.proofs.Refusing.{is_forced, may_refuse}
 use Rattle.hall.specs.Passes.{view, cargo_of}
 use Rattle.query_cells.proofs.Replies.{nothing_gained, tells_after}
+use Rattle.hall.specs.Treading.{IsWeakAt, treads_none, treads_then}
+use Rattle.query_cells.proofs.Trails.{weak_here}
 use Rattle.query_cells.proofs.refusable.ask_try_get.Goals as goal
 
 pub refuse-requires-clause-may : goal.refuse-requires-clause-may
@@ -26,3 +28,13 @@ pub returns-in-None-clause-tells : goal.returns-in-None-clause-tells
 returns-in-None-clause-tells g c =
     let v = view c.args.pass.now in let u = view c.try_to_read.new.pass in
     tells_after (cargo_of c.args.hall.now) v u (view c.refuse.new.pass) c.args.index _ c.refuse.result c.in-None.ensures.taken.nothing c.refuse.ensures.tells
+
+pub returns-in-Some-clause-trail : goal.returns-in-Some-clause-trail
+returns-in-Some-clause-trail g c =
+    let v = view c.args.pass.now in let u = view c.try_to_read.new.pass in let w = view c.answer_value.new.pass in let e = c.in-Some.ensures in
+    treads_then (IsWeakAt c.args.cell) v u w e.trail (weak_here u w c.in-Some.ptr.guard.lock c.args.cell e.taken.0 c.answer_value.ensures.trail)
+
+pub returns-in-None-clause-trail : goal.returns-in-None-clause-trail
+returns-in-None-clause-trail g c =
+    let v = view c.args.pass.now in let u = view c.try_to_read.new.pass in let w = view c.refuse.new.pass in
+    treads_then (IsWeakAt c.args.cell) v u w c.in-None.ensures.trail (treads_none (IsWeakAt c.args.cell) u w c.refuse.ensures.tells.number c.refuse.ensures.trail)

@@ -1,4 +1,3 @@
-use Rattle.std.proofs.Common.{◌≡◌}
 use Rattle.shared_mutex.specs.Beside.{HasRole}
 use Rattle.shared_mutex.proofs.beside_model.sequence.Given as goal
 

@@ -1,7 +1,7 @@
 use Rattle.std.proofs.Common.{◌≡◌, ◌∙◌, ◌+◌, ◌∷◌, List, length, refl, sym, ap, subst, inl, inr, arith, rules, slice_index_or, false}
 use Rattle.hall.specs.declared.guards.TryFault.{TryFault}
 use Rattle.hall.specs.declared.view.Standing.TheVariants.{Announcing, Away}
-use Rattle.hall.specs.Passes.{view}
+use Rattle.hall.specs.Passes.{view, IsPassOf}
 use Rattle.hall.specs.Views.{mode_of, standing}
 use Rattle.shared_mutex.specs.Acquiring.{ElsewhereSame}
 use Rattle.sync_cell.specs.AttemptLaws.{still_elsewhere}
@@ -88,3 +88,7 @@ returns-in-Err-clause-steps g c = let one = c.in_ok-wait_until.ensures.gives in 
     (subst (λ p. standing (view p) c.args.cell ≡ Announcing v.shape.slots 0 false) (sym between) one.4.0)
     (meetings_looked maps a c.args.cell u fs met)
     c.retract.ensures.step
+
+pub retract-requires-clause-pass : goal.retract-requires-clause-pass
+retract-requires-clause-pass g c = let r = c.in-Err.ensures.refuses in let after = c.pass-2-1.given.1 (sym r.0) in let ready = c.in-Err.ensures.ready in
+    λ _. subst (λ p. IsPassOf c.args.hall.now p) (sym after) (subst (λ h. IsPassOf h.now c.wait_until-2.new.attempt.pass.now) r.1 ready.0)

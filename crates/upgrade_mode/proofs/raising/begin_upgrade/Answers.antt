@@ -9,7 +9,7 @@ use Rattle.hall.specs.Views.{after_look}
 use Rattle.upgrade_mode.proofs.raising.begin_upgrade.Goals as goal
 
 pub up-requires-clause-seen : goal.up-requires-clause-seen
-up-requires-clause-seen g c = λ _ _. holder_finds g.C.CargoRule _ _ _ _ _ _ c.load-seen.ensures.step.2 c.requires.upgrade
+up-requires-clause-seen g c = λ _ _. holder_finds g.C.CargoRule _ _ _ _ _ _ c.load-seen.ensures.step.2 c.requires.fits.1
 
 pub returns-in-Ok-clause-step : goal.returns-in-Ok-clause-step
 returns-in-Ok-clause-step g c =
@@ -19,7 +19,7 @@ returns-in-Ok-clause-step g c =
       refl,
       (
         c.load-seen.result,
-        holder_finds g.C.CargoRule _ _ _ _ _ _ t.2 c.requires.upgrade,
+        holder_finds g.C.CargoRule _ _ _ _ _ _ t.2 c.requires.fits.1,
         subst (λ (z : View _). AnnouncesUp g.C.CargoRule z c.args.guard.lock c.load-seen.result (view c.up.new.pass)) t.0 c.in-Ok.ensures.step,
       ),
     )

@@ -1,6 +1,7 @@
-use Rattle.std.proofs.Common.{sym, subst, arith}
+use Rattle.std.proofs.Common.{[], ◌∷◌, ◌++◌, sym, ap, ◌∙◌, subst, arith}
+use Rattle.combine_job.specs.declared.parcel.Parcel.TheVariants.{Posted, Answered}
 use Rattle.dist_mutex.specs.Owners.{Owning}
-use Rattle.dist_mutex.proofs.Combines.{found, own_below}
+use Rattle.dist_mutex.proofs.Combines.{found, own_below, released_at}
 use Rattle.dist_mutex.proofs.mutex.DistMutex.lock_combine.Goals as goal
 
 pub run_owned-answer-requires-clause-owner : goal.run_owned-answer-requires-clause-owner
@@ -15,3 +16,18 @@ returns-clause-rises g c p far =
     own_below g.V.Room.rooms g.J.Job.means c.args.self.now.chain.table.shared.key m.0.own m.0.quota l.result.kept
     (found g.V.Room.rooms g.J.Job.means c.args.self.now.chain.table.shared.key c.args.self.now.chain.table.shared.table_id.slots m l.new.pass.pass.seat.me l.result.turn l.result.kept l.ensures.owner).0 p
     (omega (arith, far, c.run_owned-answer.ensures.position.0))
+
+pub returns-clause-steps : goal.returns-clause-steps
+returns-clause-steps g c =
+    let l = c.lock-owner in let r = c.run_owned-answer in let u = c.unlock-released in (
+      l.result.kept,
+      r.new.owner.kept,
+      u.result.next,
+      (
+        l.new.pass.pass.seat.me,
+        l.result.turn,
+        l.ensures.owner,
+        r.ensures.related,
+        released_at _ _ _ r.new.owner.turn l.result.turn r.new.pass.pass.seat.me l.new.pass.pass.seat.me _ _ _ (r.ensures.listed ∙ ap (λ xs. xs ++ (Posted c.args.job, Answered r.result) ∷ []) l.ensures.runs) r.ensures.same.1 r.ensures.same.0 u.ensures.released,
+      ),
+    )

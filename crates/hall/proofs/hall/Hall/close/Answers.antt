@@ -1,5 +1,5 @@
 use Rattle.std.proofs.Common.{arith}
-use Rattle.hall.proofs.Ending.{ends}
+use Rattle.hall.proofs.Ending.{ends, leaves}
 use Rattle.hall.proofs.hall.Hall.close.Goals as goal
 
 pub returns-clause-rule : goal.returns-clause-rule
@@ -7,3 +7,6 @@ returns-clause-rule g c = let v = c.close_with.ensures.values in let seen = v.2.
 
 pub returns-clause-cargo : goal.returns-clause-cargo
 returns-clause-cargo g c = let v = c.close_with.ensures.values in ends g.C.CargoRule _ _ _ _ _ _ (let s = c.args.self.sized in let s0 = s.0 in let s1 = s.1 in omega arith) v.2
+
+pub returns-clause-words : goal.returns-clause-words
+returns-clause-words g c = let v = c.close_with.ensures.values in leaves g.C.CargoRule _ _ _ _ _ _ (let s = c.args.self.sized in let s0 = s.0 in let s1 = s.1 in omega arith) v.2

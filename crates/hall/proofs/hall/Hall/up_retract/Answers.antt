@@ -4,7 +4,7 @@ use Rattle.hall.proofs.UpgradeSteps.{retracts_up}
 use Rattle.hall.proofs.hall.Hall.up_retract.Goals as goal
 
 pub fetch_xor-requires : goal.fetch_xor-requires
-fetch_xor-requires g c = (search rules, search rules, retracts_up g.C.CargoRule c.args.self.now.table.shared.key _ _ _ c.args.lock _ c.place-place.ensures.value c.requires.pass.1 (omega (arith, c.args.pass.now.tied.1)) c.requires.lock c.requires.announced)
+fetch_xor-requires g c = (search rules, search rules, retracts_up g.C.CargoRule c.args.self.now.table.shared.key _ _ _ c.args.lock _ c.place-place.ensures.value c.requires.pass.1 (omega (arith, c.args.pass.now.tied.1)) c.requires.lock c.requires.announced.0 c.requires.announced.1)
 
 pub invariant_of-pass : goal.invariant_of-pass
 invariant_of-pass g c = let k = c.fetch_xor.ensures.2.0 in let t = c.args.pass.now.tied in record { tied = (t.0 ∙ sym k.2, k.3 ∙ t.1, t.2 ∙ sym k.4, k.0 ∙ t.3); low = c.args.pass.now.low }

@@ -8,7 +8,7 @@ use Rattle.waiter_chain.proofs.chain.Chain.free_as.Goals as goal
 
 pub load-requires : goal.load-requires
 load-requires g c = let o = c.args.self.now.table.shared.key in let e = c.requires.ends in let t = c.requires.turn in let a = owns_at _ c.args.turn.now t.0 c.args.pass.now.seat.me e.0 t.1 e.2 t.2 in
-    (c.requires.own, omega (arith, c.args.self.now.sized.0), looks (g.P.Freight.rule o) o.nodes _ _ _ e.0 e.2 a.6)
+    (c.requires.own, omega (arith, c.args.self.now.sized.0), looks (g.P.Freight.rule o) o.nodes _ _ _ e.0 e.2)
 
 pub returns-then-load-mark-clause-taken : goal.returns-then-load-mark-clause-taken
 returns-then-load-mark-clause-taken g c _ =

@@ -1,0 +1,52 @@
+-- Whom the lock shown lists, and what follows for a reader that enters.
+use Rattle.std.proofs.Common.{◌≡◌, ℕ, zero, suc, ◌<◌, List, [], ◌∷◌, sym, refl, subst, inl, inr, arith}
+use mathlib.Core.Logic.{dite}
+use mathlib.Core.Option.{some, some-injective, some-ne-none}
+use Rattle.std.proofs.Math.Decide.{dec_lt}
+use lib.ListN.{get_elem?}
+use Rattle.lock_model.specs.declared.model.SeatRole.{SeatRole}
+use Rattle.lock_model.specs.Locks.{Has}
+use Rattle.lock_model.specs.Moves.{no_reader_passes}
+use Rattle.state_word.specs.Words.{enter-fields, lower-fields, announce-fields, hold-fields, retract-fields, release-fields, up-fields, down-fields, to_shared-fields, to_upgrade-fields, add-fields}
+use Rattle.hall.specs.declared.cargo.CargoRule.{Ghosts}
+use Rattle.hall.specs.declared.view.View.{View}
+use Rattle.hall.specs.Moves.{shown, lock_shown}
+use Rattle.hall.specs.NumberLaws.{numbers_differ}
+use Rattle.hall.specs.Shows.{rule_shows}
+use Rattle.hall.specs.ShownLaws.{entry, shown_living, shown_spent}
+use Rattle.lock_laws.specs.Laws.{RuleShows, NoReaderEntersPast, ChangesFields}
+
+module _ {P : Type 0} where
+  -- a pass that isn't spent stands in the lock shown
+  shows_it : (views : List (View P)) (lock j : ℕ) (u : View P) → get_elem? views j ≡ some u → 0 < u.span → Has (shown lock views) (entry lock u)
+  shows_it [] lock j u e lives = absurd (some-ne-none u (sym e))
+  shows_it (x ∷ xs) lock zero u e lives = subst (λ (z : View P). Has (shown lock (z ∷ xs)) (entry lock u)) (sym (some-injective x u e)) (subst (λ (l : List SeatRole). Has l (entry lock u)) (sym (shown_living lock u xs lives)) (inl refl))
+  shows_it (x ∷ xs) lock (suc j) u e lives =
+      let rest : Has (shown lock xs) (entry lock u) = shows_it xs lock j u e lives in
+      dite (dec_lt 0 x.span)
+      (λ living. subst (λ (l : List SeatRole). Has l (entry lock u)) (sym (shown_living lock x xs living)) (inr rest))
+      (λ dead. subst (λ (l : List SeatRole). Has l (entry lock u)) (sym (shown_spent lock x xs (omega arith))) rest)
+
+module _ {C P : Type 0} (g : Ghosts C P) where
+  pub shows_locks : RuleShows g
+  shows_locks plan s h lock near = rule_shows g plan s h lock near
+
+  pub enters_past_nobody : NoReaderEntersPast g
+  enters_past_nobody v w lock found left m lives first j u there ne living f =
+      no_reader_passes (lock_shown v.shape.policy lock m.state.views) _ v.number first m.moves (entry lock u) f (shows_it m.state.views lock j u there living)
+      (numbers_differ m.plan.shape.seats m.state.views m.id j v u m.before.numbered m.mine there ne lives living)
+
+pub sets_fields : ChangesFields
+sets_fields w fits = record {
+  enter = enter-fields w fits;
+  lower = lower-fields w fits;
+  announce = announce-fields w fits;
+  hold = hold-fields w fits;
+  retract = retract-fields w fits;
+  release = release-fields w fits;
+  up = up-fields w fits;
+  down = down-fields w fits;
+  to_shared = to_shared-fields w fits;
+  to_upgrade = to_upgrade-fields w fits;
+  add = add-fields w fits;
+}

@@ -1,0 +1,55 @@
+-- The statements of the laws.
+use Rattle.std.specs.Prelude.{◌≡◌, ◌≢◌, ℕ, ◌+◌, ◌%◌, ◌<◌, if◌then◌else◌, Some}
+use mathlib.Core.Option.{some}
+use lib.ListN.{get_elem?}
+use Rattle.atomic_table.specs.Table.{State}
+use Rattle.lock_model.specs.declared.model.Policy.TheVariants.{WritePriority}
+use Rattle.lock_model.specs.declared.model.Role.TheVariants.{Announces}
+use Rattle.lock_model.specs.declared.model.Act.{Act}
+use Rattle.lock_model.specs.declared.model.Act.TheVariants.{EnterShared}
+use Rattle.lock_model.specs.declared.model.SeatRole.{SeatRole}
+use Rattle.std.specs.Prelude.{Bool}
+use Rattle.lock_model.specs.Locks.{Lock, Has, IsLawful, after_event}
+use Rattle.state_word.specs.Words.{fields, fields_of, is_deep, may_defer_of, upgrade_of, begun_of, held_of, idle_of, units_of, enter_of, lower_of, announce_of, hold_of, retract_of, release_of, up_of, down_of, to_shared_of, to_upgrade_of, add_of}
+use Rattle.hall.specs.declared.cargo.CargoRule.{Ghosts}
+use Rattle.hall.specs.declared.view.Plan.{Plan}
+use Rattle.hall.specs.declared.view.View.{View}
+use Rattle.hall.specs.Moves.{Moment, role_of}
+use Rattle.hall.specs.Rule.{Holds}
+use Rattle.hall.specs.Shows.{LockShows}
+use Rattle.hall.specs.Views.{standing}
+
+module _ {C P : Type 0} (g : Ghosts C P) where
+  -- where the rule holds, each lock is so
+  abbrev pub RuleShows : Type 0
+  RuleShows = (plan : Plan C) (s : State (Unit {0}) (View P)) → Holds g plan s → (lock : ℕ) → lock < plan.shape.locks → LockShows plan.shape.slots lock s.words s.views
+
+  -- at the moment of a step that enters a reader under write priority, no other pass is announced at the lock
+  abbrev pub NoReaderEntersPast : Type 0
+  NoReaderEntersPast = (v w : View P) (lock found left : ℕ) (m : Moment g v w lock found left (Some EnterShared)) → 0 < v.span → v.shape.policy ≡ WritePriority
+      → (j : ℕ) (u : View P) → get_elem? m.state.views j ≡ some u → j ≢ m.id → 0 < u.span → (f : Bool) → role_of (standing u lock) ≢ Announces f
+
+-- each allowed event keeps a lawful lock lawful
+abbrev pub MovesKeepLawful : Type 0
+MovesKeepLawful = (l after : Lock) (seat : ℕ) (a : Act) → IsLawful l.seats → after_event l seat a ≡ Some after → IsLawful after.seats
+
+-- under write priority no reader enters while another seat is announced
+abbrev pub NoReaderPasses : Type 0
+NoReaderPasses = (l after : Lock) (seat : ℕ) → l.policy ≡ WritePriority → after_event l seat EnterShared ≡ Some after → (t : SeatRole) (f : Bool) → Has l.seats t → t.seat ≢ seat → t.role ≢ Announces f
+
+-- what each change of a word, where its condition holds, makes of the word's fields
+pub record FieldLaws (w : ℕ) : Type 0 where
+  pub enter : units_of w ≢ 2147483647 → fields_of (enter_of w) ≡ fields (if is_deep w then 1 else may_defer_of w) (upgrade_of w) (begun_of w) (held_of w) (idle_of w) ((units_of w + 1) % 4294967296)
+  pub lower : fields_of (lower_of w) ≡ fields (may_defer_of w) (upgrade_of w) (begun_of w) (held_of w) (idle_of w) ((units_of w + 4294967295) % 4294967296)
+  pub announce : begun_of w ≡ 0 → fields_of (announce_of w) ≡ fields 0 (upgrade_of w) 1 (held_of w) (idle_of w) (units_of w)
+  pub hold : begun_of w ≡ 1 → units_of w ≡ 0 → fields_of (hold_of w) ≡ fields (may_defer_of w) 0 0 1 (idle_of w) 0
+  pub retract : begun_of w ≡ 1 → may_defer_of w ≡ 0 → fields_of (retract_of w) ≡ fields 1 (upgrade_of w) 0 (held_of w) (idle_of w) (units_of w)
+  pub release : held_of w ≡ 1 → fields_of (release_of w) ≡ fields (may_defer_of w) (upgrade_of w) (begun_of w) 0 (idle_of w) (units_of w)
+  pub up : upgrade_of w ≡ 0 → fields_of (up_of w) ≡ fields (may_defer_of w) 1 (begun_of w) (held_of w) (idle_of w) (units_of w)
+  pub down : upgrade_of w ≡ 1 → fields_of (down_of w) ≡ fields (may_defer_of w) 0 (begun_of w) (held_of w) (idle_of w) (units_of w)
+  pub to_shared : fields_of (to_shared_of w) ≡ fields (may_defer_of w) 0 (begun_of w) 0 (idle_of w) ((units_of w + 1) % 4294967296)
+  pub to_upgrade : held_of w ≡ 1 → fields_of (to_upgrade_of w) ≡ fields (may_defer_of w) 1 (begun_of w) 0 (idle_of w) (units_of w)
+  pub add : (n : ℕ) → fields_of (add_of w n) ≡ fields (may_defer_of w) (upgrade_of w) (begun_of w) (held_of w) (idle_of w) ((units_of w + n) % 4294967296)
+
+abbrev pub ChangesFields : Type 0
+ChangesFields = (w : ℕ) → w < 18446744073709551616 → FieldLaws w
