@@ -3,7 +3,7 @@ ghost use Rattle.std.specs.Prelude.{◌≡◌, ◌<◌, ◌≤◌, ◌+◌, ◌*
 ghost use Rattle.query_rules.specs.Maps.{no_entries};
 ghost use Rattle.map_cargo.specs.Cells.{word_count, number_place, width};
 ghost use Rattle.map_cargo.specs.History.{OneHistory, Learns, IsSettled, IsRested, first_part, split_part, joined_part};
-ghost use Rattle.map_cargo.specs.Laws.{starts, gain_keeps, raise_keeps, lower_keeps, split_keeps, join_keeps};
+ghost use Rattle.map_cargo.specs.Laws.{starts, gain_keeps, raise_keeps, lower_keeps, split_keeps, join_keeps, gains_settles, gains_leave};
 
 use crate::entry::Part;
 use crate::size::MapCargo;
@@ -49,6 +49,12 @@ impl CargoRule for MapCargo {
     ghost split_keeps = { split_keeps no_entries };
 
     ghost join_keeps = { join_keeps no_entries };
+
+    ghost gains_settles = { λ lock _ p q. gains_settles no_entries lock p q };
+
+    ghost gains_leave = { λ lock other _ p q. gains_leave no_entries lock other p q };
+
+    ghost lowered_leaves = { λ _ _ _ _ _ settled. settled };
 }
 
 impl MapCargo {
