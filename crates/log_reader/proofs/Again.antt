@@ -20,7 +20,8 @@ use Rattle.query_rules.specs.Log.{found_words, said_words, ledger_words, reply_w
 use Rattle.query_rules.proofs.Spelled.{number_again}
 use Rattle.log_reader.specs.declared.answered.Answered.{Answered}
 use Rattle.log_reader.specs.declared.read_words.Question.{Question}
-use Rattle.log_reader.specs.Listing.{IsNumber, IsFound, IsSaid, IsResult, IsReply, IsQuery, IsWritable, answered_words}
+use Rattle.query_rules.specs.Numbers.{IsNumber, IsFound, IsSaid, IsResult, IsReply, IsQuery}
+use Rattle.log_reader.specs.Listing.{IsWritable, answered_words}
 use Rattle.log_reader.specs.Reading.{◌>>=◌, name_at, number_at, numbers_at, query_at, question_at, said_named, said_with, said_in, refusal_in, result_in, placed_in, refused_in, job_in, kind_in, answered_in, tables_in}
 use Rattle.log_reader.proofs.WideNumbers.{wide_again}
 use Rattle.log_reader.proofs.Clean.{Clean, IsForm, clean_number, clean_numbers, clean_wide, clean_if, all_append}

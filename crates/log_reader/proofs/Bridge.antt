@@ -16,12 +16,13 @@ use Rattle.query_rules.specs.declared.query.Section.TheVariants.{Maps, Jobs}
 use Rattle.query_rules.specs.declared.query.Spot.{Spot}
 use Rattle.query_rules.specs.Grammar.{Asked, IsScript, TakesBelow, cells_of}
 use Rattle.query_rules.specs.History.{IsKindFor}
-use Rattle.query_rules.specs.Log.{log_text, head_text, spots_text, refused_text, spots_of, spot_cmp, totals_text, totals_of, end_line, placed_count, IsOrderOf}
+use Rattle.query_rules.specs.Log.{log_text, head_text, spots_text, refused_text, spots_of, spot_cmp, totals_text, totals_of, end_line, placed_count, IsOrderOf, IsLogOf}
 use Rattle.query_text.proofs.Spots.{maps_count}
 use Rattle.log_reader.specs.declared.answered.Answered.{Answered}
-use Rattle.log_reader.specs.Listing.{IsNumber, IsQuery, IsReply, IsWritable, Listing, IsWritableListing, answered_line, answers_text, tail_text, listing_text, line_cmp, section_of, key_of, lines_totals}
+use Rattle.query_rules.specs.Numbers.{IsNumber, IsQuery, IsReply}
+use Rattle.log_reader.specs.Listing.{IsWritable, Listing, IsWritableListing, answered_line, answers_text, tail_text, listing_text, line_cmp, section_of, key_of, lines_totals}
 use Rattle.log_reader.specs.LogText.{answered_from, answered_of, IsPaired, is_log, is_answer, has_reply, takes_below, listing, IsLogText}
-use Rattle.log_reader.specs.IsLog.{IsLogOf, IsNoLog}
+use Rattle.log_reader.specs.IsLog.{IsNoLog}
 use Rattle.log_reader.specs.Reading.{FailsOnly}
 use Rattle.log_reader.specs.declared.fault.LogFault.{LogFault}
 use Rattle.log_reader.specs.declared.fault.LogFault.TheVariants.{NoMemory, NotALog}

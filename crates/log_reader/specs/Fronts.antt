@@ -2,7 +2,8 @@
 use Rattle.std.specs.Prelude.{◌≢◌, ℕ, List, ◌++◌}
 use Rattle.query_rules.specs.Log.{tables_line, head_text}
 use Rattle.log_reader.specs.declared.answered.Answered.{Answered}
-use Rattle.log_reader.specs.Listing.{IsNumber, IsWritable, answered_line}
+use Rattle.query_rules.specs.Numbers.{IsNumber}
+use Rattle.log_reader.specs.Listing.{IsWritable, answered_line}
 
 -- no line of a query and its reply stands at the front
 abbrev pub NoLine : List ℕ → Type 0

@@ -4,7 +4,8 @@ ghost use Rattle.std.specs.List.{AllByRecursion};
 ghost use Rattle.query_rules.specs.Log.{number_line, tables_line, head_text, answer_line};
 ghost use Rattle.query_text.specs.Spaced.{placed_bytes};
 ghost use Rattle.log_reader.specs.declared.answered.Answered.{Answered as answered_data};
-ghost use Rattle.log_reader.specs.Listing.{answered_line, answers_text, IsWritable, IsNumber};
+ghost use Rattle.query_rules.specs.Numbers.{IsNumber};
+ghost use Rattle.log_reader.specs.Listing.{answered_line, answers_text, IsWritable};
 ghost use Rattle.log_reader.specs.Fronts.{NoLine, NoTables, NoHead};
 
 use crate::Answered;

@@ -5,7 +5,8 @@ ghost use Rattle.query_rules.specs.Grammar.{Asked};
 ghost use Rattle.log_reader.specs.Reading.{FailsOnly};
 ghost use Rattle.log_reader.specs.Pages.{page as page_view};
 ghost use Rattle.log_reader.specs.LogText.{is_log as log_test};
-ghost use Rattle.log_reader.specs.IsLog.{IsLogOf, IsNoLog, SaysOneLog};
+ghost use Rattle.query_rules.specs.Log.{IsLogOf};
+ghost use Rattle.log_reader.specs.IsLog.{IsNoLog, SaysOneLog};
 
 use crate::LogFault;
 use crate::checks::{all_answers, is_sorted, sort_lines};

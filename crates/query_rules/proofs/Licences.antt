@@ -6,7 +6,8 @@ use Rattle.query_rules.specs.declared.query.Query.TheVariants.{Get, Put, TryGet,
 use Rattle.query_rules.specs.declared.query.Reply.{Reply}
 use Rattle.query_rules.specs.declared.query.Reply.TheVariants.{Placed, Busy, Late, Job}
 use Rattle.query_rules.specs.Log.{is_refusal}
-use Rattle.query_rules.specs.Licence.{AnotherAsks, MayBeBusy, MayBeLate, IsLicensed, AllLicensed, takes, takes_strongly}
+use Rattle.query_rules.specs.Laws.{AloneIsServed}
+use Rattle.query_rules.specs.Licence.{AnotherAsks, MayBeBusy, MayBeLate, IsLicensed, takes, takes_strongly}
 
 -- past the only list there is none
 nothing_there : (queries : List Query) (other index : ℕ) (q : Query) → other ≢ 0 → slice_get (get_or (queries ∷ []) other []) index ≡ Some q → ⊥
@@ -38,8 +39,13 @@ none_refused queries [] (reply ∷ replies) all = absurd all
 none_refused queries (q ∷ asked) [] all = absurd all
 none_refused queries (q ∷ asked) (reply ∷ replies) all = (not_refused queries q reply all.0, none_refused queries asked replies all.1)
 
-pub alone_is_served : (queries : List Query) (replies : List Reply) → AllLicensed (queries ∷ []) 0 (queries ∷ []) (replies ∷ []) → AllByRecursion (λ reply. is_refusal reply ≡ false) replies
-alone_is_served queries replies all = none_refused queries queries replies all.0
+pub alone_is_served : AloneIsServed
+alone_is_served rows [] [] few h = tt
+alone_is_served rows [] (replies ∷ told) few h = absurd h.once
+alone_is_served rows (queries ∷ []) [] few h = tt
+alone_is_served rows (queries ∷ []) (replies ∷ []) few h = (none_refused queries queries replies h.licensed.0, tt)
+alone_is_served rows (queries ∷ []) (replies ∷ more ∷ told) few h = absurd h.once.1
+alone_is_served rows (queries ∷ next ∷ callers) told few h = absurd (omega (arith, few))
 
 -- two callers: the second reads cell 0 and writes cell 1
 abbrev two : List (List Query)

@@ -14,6 +14,7 @@ use Rattle.query_rules.specs.declared.query.Reply.{Reply}
 use Rattle.query_rules.specs.declared.query.Reply.TheVariants.{Placed, Busy, Late, Job}
 use Rattle.query_rules.specs.Maps.{Maps, no_entries, reply_of, is_write, written}
 use Rattle.query_rules.specs.Ledger.{no_accounts, IsLegalLedger}
+use Rattle.query_rules.specs.Licence.{AllLicensed}
 
 -- write number w stands at place 2w + 1, and a read after w writes at 2w
 abbrev pub place_of : ℕ → Said → ℕ
@@ -200,8 +201,9 @@ pub record AnswersEachOnce (queries : List Query) (replies : List Reply) : Type 
   pub each : AllZip IsKindFor queries replies
   pub order : InOrder replies
 
--- one history of what these callers ask
+-- one history of what these callers ask; a reply without a place stands only where another caller's queries allow it
 pub record IsHistory (rows : ℕ) (callers : List (List Query)) (told : List (List Reply)) : Type 0 where
   pub once : AllZip AnswersEachOnce callers told
   pub legal : IsLegal rows no_entries (entries callers told)
   pub ledger : IsLegalLedger rows no_accounts (entries callers told)
+  pub licensed : AllLicensed callers 0 callers told

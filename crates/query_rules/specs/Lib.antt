@@ -7,3 +7,5 @@ pub mod History
 pub mod Ledger
 pub mod Log
 pub mod Licence
+pub mod Numbers
+pub mod Laws

@@ -1,8 +1,9 @@
 -- The text of a log.
-use Rattle.std.specs.Prelude.{ℕ, ◌+◌, ◌<◌, ◌%◌, ◌==◌, Bool, true, false, List, [], ◌∷◌, ◌++◌, length, take, drop, Some, None, Ok, Err, slice_get, get_or, codes, decimal, flat_map, sum_by, count_by, IsPermutation, IsSorted}
+use Rattle.std.specs.Prelude.{◌≡◌, ℕ, ◌+◌, ◌<◌, ◌%◌, ◌==◌, Bool, true, false, List, [], ◌∷◌, ◌++◌, length, take, drop, Some, None, Ok, Err, slice_get, get_or, codes, decimal, flat_map, sum_by, count_by, IsPermutation, IsSorted}
 use Rattle.std.specs.declared.option.Option.{Option}
 use Rattle.std.specs.declared.result.Result.{Result}
 use Rattle.std.specs.declared.cmp.Ordering.{Ordering}
+use Rattle.std.specs.List.{AllByRecursion, AllZip}
 use Rattle.std.specs.Ordering.{nat_cmp, ordering_then}
 use Rattle.query_rules.specs.declared.query.Query.{Query}
 use Rattle.query_rules.specs.declared.query.Said.{Said}
@@ -20,7 +21,9 @@ use Rattle.query_rules.specs.declared.query.Total.TheVariants as total
 use Rattle.query_rules.specs.declared.query.Spot.{Spot}
 use Rattle.query_rules.specs.declared.query.Cause.{Cause}
 use Rattle.query_rules.specs.declared.query.Cause.TheVariants as cause
-use Rattle.query_rules.specs.Grammar.{Asked}
+use Rattle.query_rules.specs.Grammar.{Asked, IsScript}
+use Rattle.query_rules.specs.History.{IsKindFor}
+use Rattle.query_rules.specs.Numbers.{IsNumber, IsQuery, IsReply}
 use Rattle.query_rules.specs.Verbs.{query_words}
 use Rattle.query_rules.specs.Words.{line_of}
 
@@ -234,6 +237,17 @@ log_text s rows told order =
     ++ (refused_text s.callers told
     ++ (spots_text s.callers told (drop (placed_count told) order)
     ++ (totals_text (totals_of told) ++ end_line))))
+
+-- The text is the log of this script with so many rows, of these replies, in their order. The script is one that a text says, the replies are of kinds that its queries may get, and all numbers are those of a machine.
+pub record IsLogOf (s : Asked) (rows : ℕ) (told : List (List Reply)) (text : List ℕ) : Type 0 where
+  pub script : IsScript s
+  pub asks : AllByRecursion (AllByRecursion IsQuery) s.callers
+  pub room : IsNumber rows
+  pub tells : AllByRecursion (AllByRecursion IsReply) told
+  pub kinds : AllZip (AllZip IsKindFor) s.callers told
+  pub order : List Spot
+  pub in_order : IsOrder told order
+  pub text_is : text ≡ log_text s rows told order
 
 abbrev pub cause_word : Cause → List ℕ
 cause_word cause.BadByte = codes "BadByte"

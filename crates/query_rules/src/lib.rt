@@ -4,14 +4,17 @@
 //! definition that more than one crate speaks of: lines, words and numbers; which bytes are a
 //! script; the plain meaning of a query; one legal history; the text of a log.
 //!
-//! Its few functions are one table, [`Verb`], by which a script is read and a log is written, and
-//! [`number`], which reads a number.
+//! Its few functions are one table, [`Verb`], by which a script is read and a log is written,
+//! [`number`], which reads a number, and [`who_is_alone_is_served`], a law of histories, which does
+//! nothing.
 #![tactic(auto)]
 
+mod laws;
 mod numeral;
 mod query;
 mod verb;
 
+pub use laws::who_is_alone_is_served;
 pub use numeral::number;
 pub use query::{
     Account, Cause, LedgerAct, LedgerTold, LedgerTrouble, Query, Reply, Said, Section, Spot, Total,

@@ -13,7 +13,8 @@ use Rattle.query_rules.specs.Grammar.{Asked, TakesBelow, first_cause, gives, wit
 use Rattle.query_rules.proofs.Kept.{NonePasses, asked, last_query}
 use Rattle.query_rules.proofs.Spelled.{Lacks, spaced, between_spaces, words_again, words_to_numbers, lines_again, lines_unended, text_ended}
 use Rattle.query_rules.proofs.Table.{named_again, numbers_count, query_again}
-use Rattle.script_laws.specs.Spelling.{FitsWords, IsWritable, Spells, SpellingIsRead, OneScript}
+use Rattle.query_rules.specs.Numbers.{IsQuery}
+use Rattle.script_laws.specs.Spelling.{IsWritable, Spells, SpellingIsRead, OneScript}
 use Rattle.script_laws.proofs.Shown.{IsPlain, cells_plain, caller_plain, query_plain, words_lack_spaces, not_misspaced, line_good, line_unbroken}
 
 -- where no test finds its cause, the value is given
@@ -49,7 +50,7 @@ all_in_range : (cells : ℕ) (ns : List ℕ) → AllByRecursion (λ n. n < cells
 all_in_range cells [] all = refl
 all_in_range cells (n ∷ ns) all = or_from (nat_le cells n) (list_any (λ n. nat_le cells n) ns) (grind (arith, all.0)) (all_in_range cells ns all.1)
 
-query_said : (cells : ℕ) (callers : List (List Query)) (q : Query) → 0 < length callers → sum_by length callers < 1000000 → TakesBelow cells q → FitsWords q
+query_said : (cells : ℕ) (callers : List (List Query)) (q : Query) → 0 < length callers → sum_by length callers < 1000000 → TakesBelow cells q → IsQuery q
     → later_words (asked cells callers) (query_words q) ≡ Ok (asked cells (with_query callers q))
 query_said cells callers q some few below fits =
     let s : Asked = asked cells callers in
@@ -76,7 +77,7 @@ line_read s t n word words lines plain said =
 
 -- the queries of the caller that was begun last, where what follows them is read
 queries_read : (cells : ℕ) (done : List (List Query)) (had queries : List Query) (n : ℕ) (rest : List (List ℕ)) (t : Asked)
-    → AllByRecursion (TakesBelow cells) queries → AllByRecursion FitsWords queries → sum_by length done + length had + length queries ≤ 1000000
+    → AllByRecursion (TakesBelow cells) queries → AllByRecursion IsQuery queries → sum_by length done + length had + length queries ≤ 1000000
     → ((m : ℕ) → later_lines (asked cells (done ++ (had ++ queries) ∷ [])) m rest ≡ Ok t)
     → later_lines (asked cells (done ++ had ∷ [])) n (map between_spaces (map query_words queries) ++ rest) ≡ Ok t
 queries_read cells done had [] n rest t below fits few follows = ap (λ l. later_lines (asked cells (done ++ l ∷ [])) n rest) (sym (append-nil had)) ∙ follows n
@@ -94,7 +95,7 @@ caller_lines queries = (codes "caller" ∷ []) ∷ map query_words queries
 
 -- the callers behind those that are read
 callers_read : (cells : ℕ) (done callers : List (List Query)) (n : ℕ)
-    → length done + length callers ≤ 1 → sum_by length done + sum_by length callers ≤ 1000000 → AllByRecursion (AllByRecursion (TakesBelow cells)) callers → AllByRecursion (AllByRecursion FitsWords) callers
+    → length done + length callers ≤ 1 → sum_by length done + sum_by length callers ≤ 1000000 → AllByRecursion (AllByRecursion (TakesBelow cells)) callers → AllByRecursion (AllByRecursion IsQuery) callers
     → later_lines (asked cells done) n (map between_spaces (flat_map caller_lines callers)) ≡ Ok (asked cells (done ++ callers))
 callers_read cells done [] n many few below fits = ap (λ c. Ok (asked cells c)) (sym (append-nil done))
 callers_read cells done (queries ∷ callers) n many few below fits =
@@ -121,11 +122,11 @@ lines_read s is =
 abbrev IsPlainLine : List (List ℕ) → Type 0
 IsPlainLine words = (0 < length words) × AllByRecursion IsPlain words
 
-queries_plain : (queries : List Query) (rest : List (List (List ℕ))) → AllByRecursion FitsWords queries → AllByRecursion IsPlainLine rest → AllByRecursion IsPlainLine (map query_words queries ++ rest)
+queries_plain : (queries : List Query) (rest : List (List (List ℕ))) → AllByRecursion IsQuery queries → AllByRecursion IsPlainLine rest → AllByRecursion IsPlainLine (map query_words queries ++ rest)
 queries_plain [] rest fits all = all
 queries_plain (q ∷ queries) rest fits all = ((omega arith, query_plain q fits.0), queries_plain queries rest fits.1 all)
 
-callers_plain : (callers : List (List Query)) → AllByRecursion (AllByRecursion FitsWords) callers → AllByRecursion IsPlainLine (flat_map caller_lines callers)
+callers_plain : (callers : List (List Query)) → AllByRecursion (AllByRecursion IsQuery) callers → AllByRecursion IsPlainLine (flat_map caller_lines callers)
 callers_plain [] fits = tt
 callers_plain (queries ∷ callers) fits = ((omega arith, caller_plain), queries_plain queries (flat_map caller_lines callers) fits.0 (callers_plain callers fits.1))
 

@@ -15,10 +15,11 @@ use Rattle.query_rules.proofs.Kept.{asked, given_ok, spelled_ok, first_keeps, la
 use Rattle.query_rules.proofs.Spelled.{Fit, ended, numbers_to_words, line_ended, words_joined, lines_joined}
 use Rattle.query_rules.proofs.Table.{named_only, same_bytes, verb_again, numbers_again}
 use Rattle.script_laws.proofs.Reading.{caller_lines}
-use Rattle.script_laws.specs.Spelling.{FitsWords, IsWritable, spelling, ReadIsSpelled}
+use Rattle.query_rules.specs.Numbers.{IsQuery}
+use Rattle.script_laws.specs.Spelling.{IsWritable, spelling, ReadIsSpelled}
 
 abbrev AllFit : List (List Query) → Type 0
-AllFit callers = AllByRecursion (AllByRecursion FitsWords) callers
+AllFit callers = AllByRecursion (AllByRecursion IsQuery) callers
 
 -- a line adds its words to the spelling, and numbers that can be written
 abbrev Adds : Asked → Asked → List (List ℕ) → Type 0
@@ -62,12 +63,12 @@ caller_spelled s t words named e =
     let P : Asked → Type 0 = λ t. Adds s t words in
     subst P r.1 (
       ap (λ l. first ∷ l) (flat_map-append caller_lines s.callers ([] ∷ []) ∙ ap (λ w. flat_map caller_lines s.callers ++ w ∷ []) (sym is)),
-      λ fit. all_push (AllByRecursion FitsWords) s.callers [] fit tt,
+      λ fit. all_push (AllByRecursion IsQuery) s.callers [] fit tt,
     )
 
 -- a query
 query_spelled_words : (words : List (List ℕ)) (verb : Verb) (ns : List ℕ) → verb_named (word_at words 0) ≡ Some verb → length words ≡ 1 + arity verb → length ns ≡ arity verb → numbers_in (drop 1 words) ≡ Some ns
-    → (query_words (query_of verb ns) ≡ words) × FitsWords (query_of verb ns)
+    → (query_words (query_of verb ns) ≡ words) × IsQuery (query_of verb ns)
 query_spelled_words words verb ns named long len is =
     let q : Query = query_of verb ns in
     let name : word_at words 0 ≡ verb_word (verb_of q) = named_only (word_at words 0) verb named ∙ ap verb_word (sym (verb_again verb ns)) in
@@ -75,7 +76,7 @@ query_spelled_words words verb ns named long len is =
     let written = numbers_to_words (drop 1 words) ns is in
     (first_word words (map decimal (numbers_of q)) (verb_word (verb_of q)) (omega (arith, long)) name (ap (map decimal) numbers ∙ written.0), subst Fit (sym numbers) written.1)
 
-last_spelled : (cells : ℕ) (front : List (List Query)) (last : List Query) (q : Query) (words : List (List ℕ)) → query_words q ≡ words → FitsWords q → Adds (asked cells (front ++ last ∷ [])) (asked cells (front ++ (last ++ q ∷ []) ∷ [])) words
+last_spelled : (cells : ℕ) (front : List (List Query)) (last : List Query) (q : Query) (words : List (List ℕ)) → query_words q ≡ words → IsQuery q → Adds (asked cells (front ++ last ∷ [])) (asked cells (front ++ (last ++ q ∷ []) ∷ [])) words
 last_spelled cells front last q words is fits =
     let first : List (List ℕ) = codes "cells" ∷ decimal cells ∷ [] in
     let before : List (List (List ℕ)) = flat_map caller_lines front in
@@ -87,7 +88,7 @@ last_spelled cells front last q words is fits =
     ∙ ap (λ l. (before ++ l) ++ words ∷ []) (sym (append-nil (caller_lines last)))
     ∙ ap (λ l. l ++ words ∷ []) (sym (flat_map-append caller_lines front (last ∷ []))) in (
       ap (λ l. first ∷ l) whole,
-      λ fit. let parts = all_parts (AllByRecursion FitsWords) front last fit in all_push (AllByRecursion FitsWords) front (last ++ q ∷ []) parts.0 (all_push FitsWords last q parts.1 fits),
+      λ fit. let parts = all_parts (AllByRecursion IsQuery) front last fit in all_push (AllByRecursion IsQuery) front (last ++ q ∷ []) parts.0 (all_push IsQuery last q parts.1 fits),
     )
 
 query_spelled : (s t : Asked) (verb : Verb) (words : List (List ℕ)) → verb_named (word_at words 0) ≡ Some verb → query_line s verb words ≡ Ok t → Adds s t words

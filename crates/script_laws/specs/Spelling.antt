@@ -1,19 +1,14 @@
 -- A script's spelling, and which texts say the script.
-use Rattle.std.specs.Prelude.{◌≡◌, ◌⊎◌, ℕ, ◌<◌, ◌^◌, List, [], ◌∷◌, ◌++◌, Ok}
+use Rattle.std.specs.Prelude.{◌≡◌, ◌⊎◌, ℕ, List, [], ◌∷◌, ◌++◌, Ok}
 use Rattle.std.specs.List.{AllByRecursion}
-use Rattle.query_rules.specs.declared.query.Query.{Query}
-use Rattle.query_rules.specs.Verbs.{numbers_of}
 use Rattle.query_rules.specs.Words.{text_of}
+use Rattle.query_rules.specs.Numbers.{IsQuery}
 use Rattle.query_rules.specs.Grammar.{Asked, IsScript, script_lines, said_by}
 
--- a query's numbers can be written
-abbrev pub FitsWords : Query → Type 0
-FitsWords q = AllByRecursion (λ n. n < 2 ^ 64) (numbers_of q)
-
--- what every script meets that a text says
+-- what every script meets that a text says: its numbers are those of a machine
 pub record IsWritable (s : Asked) : Type 0 where
   pub script : IsScript s
-  pub fits : AllByRecursion (AllByRecursion FitsWords) s.callers
+  pub fits : AllByRecursion (AllByRecursion IsQuery) s.callers
 
 abbrev pub spelling : Asked → List ℕ
 spelling s = text_of (script_lines s)

@@ -3,7 +3,7 @@ use Rattle.std.specs.Prelude.{IsSorted}
 use Rattle.log_reader.specs.declared.answered.Answered.{Answered}
 use Rattle.std.proofs.lemmas.Result.{err_from_is_err_and}
 use Rattle.query_rules.specs.Grammar.{Asked}
-use Rattle.log_reader.specs.IsLog.{IsLogOf}
+use Rattle.query_rules.specs.Log.{IsLogOf}
 use Rattle.log_reader.specs.Listing.{line_cmp}
 use Rattle.log_reader.specs.Pages.{page}
 use Rattle.log_reader.specs.Grouping.{groups_of}
