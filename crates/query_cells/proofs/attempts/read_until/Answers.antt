@@ -5,7 +5,7 @@ use Rattle.sync_cell.specs.Refused.{reader_late}
 use Rattle.query_rules.specs.Maps.{no_entries}
 use Rattle.map_cargo.specs.Gaining.{gained_by}
 use Rattle.query_cells.proofs.Taking.{gained_later, late_reads, unchanged_look, unchanged_once, unchanged_then}
-use Rattle.sync_cell.specs.TrailLaws.{enters_treads, looked_weak}
+use Rattle.shared_mutex.specs.TrailLaws.{enters_treads, looked_weak}
 use Rattle.query_cells.proofs.attempts.read_until.Goals as goal
 
 pub returns-in-Ok-clause-taken : goal.returns-in-Ok-clause-taken

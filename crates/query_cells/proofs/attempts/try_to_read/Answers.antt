@@ -7,7 +7,7 @@ use Rattle.query_rules.specs.Maps.{no_entries}
 use Rattle.map_cargo.specs.Gaining.{gained_by}
 use Rattle.query_cells.proofs.Taking.{busy_reads, gained_later, reader_unchanged, turned_away, unchanged_once, unchanged_then}
 use Rattle.hall.specs.Treading.{IsWeakAt, treads_then}
-use Rattle.sync_cell.specs.TrailLaws.{takes_shared_treads, refuses_shared_treads}
+use Rattle.shared_mutex.specs.TrailLaws.{takes_shared_treads, refuses_shared_treads}
 use Rattle.query_cells.proofs.attempts.try_to_read.Goals as goal
 
 pub returns-in-Ok-clause-taken : goal.returns-in-Ok-clause-taken

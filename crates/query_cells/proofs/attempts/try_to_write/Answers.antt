@@ -5,7 +5,7 @@ use Rattle.query_rules.specs.Maps.{no_entries}
 use Rattle.map_cargo.specs.Gaining.{gained_by}
 use Rattle.query_cells.proofs.Taking.{announced, busy_writes, gained_later, swept, turned_away, unchanged_then, writer_unchanged}
 use Rattle.hall.specs.Treading.{IsAt, treads_then}
-use Rattle.sync_cell.specs.TrailLaws.{takes_exclusive_treads, refuses_exclusive_treads}
+use Rattle.shared_mutex.specs.TrailLaws.{takes_exclusive_treads, refuses_exclusive_treads}
 use Rattle.query_cells.proofs.attempts.try_to_write.Goals as goal
 
 pub returns-in-Ok-clause-taken : goal.returns-in-Ok-clause-taken

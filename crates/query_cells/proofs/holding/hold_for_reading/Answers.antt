@@ -4,7 +4,7 @@ use Rattle.hall.specs.Views.{after_look}
 use Rattle.query_rules.specs.Maps.{no_entries}
 use Rattle.map_cargo.specs.Gaining.{gained_by}
 use Rattle.query_cells.proofs.Taking.{gained_later, unchanged_look, unchanged_once, unchanged_then}
-use Rattle.sync_cell.specs.TrailLaws.{enters_treads}
+use Rattle.shared_mutex.specs.TrailLaws.{enters_treads}
 use Rattle.query_cells.proofs.holding.hold_for_reading.Goals as goal
 
 pub returns-clause-gained : goal.returns-clause-gained

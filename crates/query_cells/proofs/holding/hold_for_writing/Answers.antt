@@ -2,7 +2,7 @@ use Rattle.hall.specs.Passes.{view}
 use Rattle.query_rules.specs.Maps.{no_entries}
 use Rattle.map_cargo.specs.Gaining.{gained_by}
 use Rattle.query_cells.proofs.Taking.{announced_at_last, gained_later, unchanged_look, unchanged_then}
-use Rattle.sync_cell.specs.TrailLaws.{writes_treads}
+use Rattle.shared_mutex.specs.TrailLaws.{writes_treads}
 use Rattle.query_cells.proofs.holding.hold_for_writing.Goals as goal
 
 pub returns-clause-gained : goal.returns-clause-gained
