@@ -47,7 +47,7 @@ pub(crate) struct Saw<K> {
 }
 
 impl<K: Spot> Note<MapCargo> for Saw<K> {
-    ghost becomes = { λ found p q. (q ≡ p) × (found ≡ slice_index (words_of p K.cell) K.index) × (length (words_of p K.cell) ≡ K.width) };
+    ghost becomes = { λ ws found p q. (q ≡ p) × (found ≡ slice_index (words_of p K.cell) K.index) × (length (words_of p K.cell) ≡ K.width) };
 }
 
 pub(crate) struct Wrote<K> {
@@ -55,7 +55,7 @@ pub(crate) struct Wrote<K> {
 }
 
 impl<K: Spot> Note<MapCargo> for Wrote<K> {
-    ghost becomes = { λ found p q. (q ≡ rewrote p K.cell K.index K.value) × (length (words_of p K.cell) ≡ K.width) };
+    ghost becomes = { λ ws found p q. (q ≡ rewrote p K.cell K.index K.value) × (length (words_of p K.cell) ≡ K.width) };
 }
 
 fn word_by<K: Spot>(hall: &Hall<MapCargo>, pass: &mut Pass<MapCargo>, cell: u64, index: u64) -> u64
