@@ -128,8 +128,8 @@ busy_writes v u w lock fault word is before r =
     reads_after (ReadAsWriter lock (Busy word)) (joined_as_writer lock (Busy word)) v u w before.goes_on (subst (λ (f : TryFault). AddsReads (ReadAsWriter lock f) u w) is r)
 
 -- a pass that wasn't let in after tries
-pub turned_away : (v u w : View Part) (lock : ℕ) → Unchanged v u → Unchanged u w → ElsewhereSame v u lock → ElsewhereSame u w lock → standing w lock ≡ Away → TurnedAway lock v w
-turned_away v u w lock a b x y away = record { away = away; elsewhere = λ k ne. y k ne ∙ x k ne; nothing = unchanged_tells v w (unchanged_then v u w a b) }
+pub turned_away : (v u w : View Part) (lock : ℕ) → Unchanged v u → Unchanged u w → ElsewhereSame v u lock → ElsewhereSame u w lock → standing w lock ≡ Away → AddsSteps (IsTry v lock) v w → TurnedAway lock v w
+turned_away v u w lock a b x y away tries = record { away = away; elsewhere = λ k ne. y k ne ∙ x k ne; nothing = unchanged_tells v w (unchanged_then v u w a b); tries = tries }
 
 pub took_at_last : (v u w : View Part) (lock : ℕ) (y : Standing) → Unchanged v u → ElsewhereSame v u lock → ElsewhereSame u w lock → standing w lock ≡ y → Gained no_entries lock u w → Took lock y v w
 took_at_last v u w lock y a same_u same_w stands got = record { stands = stands; elsewhere = λ k ne. same_w k ne ∙ same_u k ne; gained = gained_later lock v u w a got }

@@ -3,6 +3,8 @@ pub mod Tries
 pub mod TryLaws
 pub mod Attempts
 pub mod AttemptLaws
+pub mod Gains
+pub mod GainLaws
 pub mod Waits
 pub mod TrailLaws
 pub mod Refused
