@@ -17,9 +17,9 @@ use Rattle.apply_deferred.specs.SweepLaws.{sweep_goes}
 use Rattle.apply_deferred.specs.Sweeping.{Sweeps}
 use Rattle.shared_mutex.specs.Acquiring.{AnnouncesWriter, ElsewhereSame, FoundReaders, RefusesAnnouncing, RefusesExclusive, RefusesShared}
 use Rattle.shared_mutex.specs.Refused.{AddsReads, GoesOn, ReadAsReader, ReadAsWriter, goes_on_none, goes_on_once, goes_on_then, joined_as_reader, joined_as_writer, reads_after, swept_goes_on}
-use Rattle.sync_cell.specs.Refused.{looked_goes_on}
-use Rattle.sync_cell.specs.Tries.{AnnouncesAtLast, GivesUp, OnlyLooked, WritersRefused}
-use Rattle.sync_cell.specs.TryLaws.{reader_looked, writer_looked}
+use Rattle.shared_mutex.specs.TriesRefused.{looked_goes_on}
+use Rattle.shared_mutex.specs.Tries.{AnnouncesAtLast, GivesUp, OnlyLooked, WritersRefused}
+use Rattle.shared_mutex.specs.TryLaws.{reader_looked, writer_looked}
 use Rattle.sync_cell.specs.Waits.{GaveUpLate}
 use Rattle.query_rules.specs.Maps.{no_entries}
 use Rattle.map_cargo.specs.declared.size.MapCargo.{MapCargo}
@@ -99,7 +99,9 @@ module _ (g : Ghosts MapCargo Part) where
   writer_unchanged v lock w (Raced expected found) r = unchanged_look v w lock (writer_looked g v lock w (Raced expected found) r)
 
   pub announced_at_last : (v : View Part) (lock : ℕ) (faults : List TryFault) (a : View Part) → AnnouncesAtLast g v lock faults a → Unchanged v a
-  announced_at_last v lock faults a e = unchanged_then v e.3 a (unchanged_then v e.0 e.3 (unchanged_look v e.0 lock e.2) (announced e.0 e.3 lock e.4)) (swept lock v.shape.slots e.5.0 e.3 a e.5.1)
+  announced_at_last v lock faults a e =
+      let u : View Part = e.0 in let won = e.3 in let b : View Part = won.0 in
+      unchanged_then v b a (unchanged_then v u b (unchanged_look v u lock e.2) (announced u b lock won.1)) (swept lock v.shape.slots won.2.0 b a won.2.1)
 
   gave_up : (v : View Part) (lock : ℕ) (faults misses : List TryFault) (w : View Part) → GivesUp g v lock faults misses w → Unchanged v w
   gave_up v lock faults misses w e =

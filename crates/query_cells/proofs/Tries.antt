@@ -14,8 +14,8 @@ use Rattle.hall.specs.declared.view.View.{View}
 use Rattle.hall.specs.Views.{entry_of, mode_of, standing}
 use Rattle.shared_mutex.specs.Acquiring.{RefusesExclusive, RefusesShared}
 use Rattle.shared_mutex.specs.Refused.{AddsReads, reads_then}
-use Rattle.sync_cell.specs.Tries.{AddsSteps, IsTry}
-use Rattle.sync_cell.specs.TryLaws.{adds_as, adds_then}
+use Rattle.shared_mutex.specs.Tries.{AddsSteps, IsTry}
+use Rattle.shared_mutex.specs.TryLaws.{adds_as, adds_then}
 use Rattle.sync_cell.specs.Gains.{GainedBy, GainedInOrder, refuses_reader, refuses_writer}
 use Rattle.sync_cell.specs.GainLaws.{IsTrySuch, plain_tries, reader_raced, still_gained, still_in_order, tries_then, writer_raced}
 use Rattle.query_rules.specs.declared.query.Query.{Query}

@@ -21,7 +21,7 @@ use Rattle.map_cargo.specs.Cells.{Means}
 use Rattle.map_cargo.specs.Entries.{named_cells, spoken_cells}
 use Rattle.map_cargo.specs.History.{words_of, plain_of, IsRested, IsSettled}
 use Rattle.map_cargo.specs.Steps.{Alike, Gained, MoreSteps}
-use Rattle.sync_cell.specs.Tries.{AddsSteps, IsTry}
+use Rattle.shared_mutex.specs.Tries.{AddsSteps, IsTry}
 use Rattle.query_cells.specs.Asked.{AddsReply, is_job, tells_write}
 use Rattle.query_cells.specs.Placing.{IsPlacedUnder, mode_for, number_word, stood_at}
 

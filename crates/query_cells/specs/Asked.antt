@@ -24,7 +24,7 @@ use Rattle.combine_job.specs.declared.parcel.Parcel.{Parcel}
 use Rattle.combine_job.specs.Parcels.{answer_to, places}
 use Rattle.waiter_chain.specs.declared.view.View.{View as ChainView}
 use Rattle.shared_mutex.specs.Refused.{AddsReads}
-use Rattle.sync_cell.specs.Tries.{AddsSteps, IsTry}
+use Rattle.shared_mutex.specs.Tries.{AddsSteps, IsTry}
 use Rattle.sync_cell.specs.Gains.{GainedBy, GainedInOrder, refuses_reader, refuses_writer}
 use Rattle.sync_cell.specs.Waits.{AskedInTime, AskedTooLate}
 use Rattle.map_cargo.specs.declared.entry.Entry.{Entry}

@@ -16,9 +16,8 @@ use Rattle.hall.specs.declared.view.Standing.TheVariants.{Away, Announcing}
 use Rattle.hall.specs.declared.view.View.{View}
 use Rattle.hall.specs.Plays.{Retracts}
 use Rattle.hall.specs.Views.{after_look, after_step, entry_of, mode_of, standing}
-use Rattle.sync_cell.specs.Tries.{AddsSteps, AnnouncesAtLast, EntersAtLast, HoldsAtLast, IsLook, IsPatientTry, IsTry, OnlyLooked, is_retract}
-use Rattle.sync_cell.specs.TryLaws.{adds_as, adds_then, looked_once}
-use Rattle.sync_cell.specs.AttemptLaws.{stands_still}
+use Rattle.shared_mutex.specs.Tries.{AddsSteps, AnnouncesAtLast, EntersAtLast, HoldsAtLast, IsLook, IsPatientTry, IsTry, OnlyLooked, is_retract}
+use Rattle.shared_mutex.specs.TryLaws.{adds_as, adds_then, looked_once, stands_still}
 
 module _ {P : Type 0} where
   -- it is the same pass of the same hall
@@ -73,9 +72,9 @@ module _ {C P : Type 0} (g : Ghosts C P) (v : View P) (lock : ℕ) (away : stand
 
   announced : (faults : List TryFault) (a : View P) → AnnouncesAtLast g v lock faults a → Kept v a × AddsSteps (IsPatientTry v lock) v a
   announced faults a e =
-      let u = e.0 in let b = e.3 in let took = e.4 in let free_u : mode_of (standing u lock) ≡ None = ap mode_of (stands_still v u lock e.2) ∙ free in
+      let u = e.0 in let won = e.3 in let b = won.0 in let took = won.1 in let free_u : mode_of (standing u lock) ≡ None = ap mode_of (stands_still v u lock e.2) ∙ free in
       let pair = patient_pair u b kinds.Announce lock took.0 took.0 _ _ free_u refl took.2.0 in
-      let swept = sweep_goes g lock v.shape.slots e.5.0 b a e.5.1 in
+      let swept = sweep_goes g lock v.shape.slots won.2.0 b a won.2.1 in
       let free_b : mode_of (standing b lock) ≡ None = announced_free u b lock took free_u in
       let kept : Kept v b = kept_then v u b (kept_looked v u lock e.2) pair.0 in (
         kept_then v b a kept (swept.number, swept.shape),

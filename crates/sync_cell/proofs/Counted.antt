@@ -15,8 +15,8 @@ use Rattle.hall.specs.declared.view.View.{View}
 use Rattle.shared_mutex.specs.Acquiring.{RefusesAnnouncing, RefusesShared, TakesShared}
 use Rattle.timed_wait.specs.Waiting.{AsksBelow}
 use Rattle.sync_cell.specs.Attempts.{how_many, is_hold, is_load}
-use Rattle.sync_cell.specs.AttemptLaws.{all_counted}
-use Rattle.sync_cell.specs.Tries.{AnnouncesAtLast, EntersAtLast, HoldsAtLast, MeetsReaders, ReadersMet, ReadersRefused, WritersRefused}
+use Rattle.shared_mutex.specs.TryLaws.{all_counted}
+use Rattle.shared_mutex.specs.Tries.{AnnouncesAtLast, EntersAtLast, HoldsAtLast, MeetsReaders, ReadersMet, ReadersRefused, WritersRefused}
 use Rattle.sync_cell.specs.Waits.{AskedInTime, AskedTooLate}
 
 module _ {P : Type 0} where
@@ -69,8 +69,8 @@ module _ {C P : Type 0} (g : Ghosts C P) where
 
   pub announced_counted : (lock : ℕ) (v w : View P) (fs : List TryFault) → AnnouncesAtLast g v lock fs w → loads w ≡ loads v + (length fs + 1)
   announced_counted lock v w fs e =
-      let last : loads e.3 ≡ 0 + (1 + loads e.0) = ap loads e.4.2.0 in
-      omega (arith, writers_counted lock v e.0 fs e.1, last, swept_loads lock v.shape.slots e.5.0 e.3 w e.5.1)
+      let won = e.3 in let last : loads won.0 ≡ 0 + (1 + loads e.0) = ap loads won.1.2.0 in
+      omega (arith, writers_counted lock v e.0 fs e.1, last, swept_loads lock v.shape.slots won.2.0 won.0 w won.2.1)
 
   pub finished_counted : (lock : ℕ) (v w : View P) (fs : List TryFault) → HoldsAtLast g v lock fs w → holds w ≡ holds v + (length fs + 1)
   finished_counted lock v w fs e = let last : holds w ≡ 1 + holds e.0 = ap holds e.3.0.3 in omega (arith, meetings_counted lock v e.0 fs e.1, last)

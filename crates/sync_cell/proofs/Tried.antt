@@ -12,7 +12,7 @@ use Rattle.hall.specs.declared.view.Standing.TheVariants.{Away, Inline}
 use Rattle.hall.specs.Views.{standing}
 use Rattle.shared_mutex.specs.Acquiring.{ElsewhereSame, RefusesShared, TakesShared}
 use Rattle.sync_cell.specs.Attempts.{HasEntered, StillOutside, last_fault}
-use Rattle.sync_cell.specs.TryLaws.{looked_none}
+use Rattle.shared_mutex.specs.TryLaws.{looked_none}
 use Rattle.sync_cell.proofs.Counted.{loads, entering_counts, reader_counts}
 
 module _ {C P : Type 0} (g : Ghosts C P) (v : View P) (lock : ℕ) (w : View P) where

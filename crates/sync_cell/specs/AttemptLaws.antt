@@ -1,66 +1,48 @@
--- Laws of attempts: refused ones after refused ones, and one that succeeds after them; and how many they were.
-use Rattle.std.specs.Prelude.{◌≡◌, ℕ, ◌+◌, false, List, [], ◌∷◌, ◌++◌, length, slice_index_or}
-use Rattle.std.proofs.Common.{sym, ap, ◌∙◌, subst, arith}
+-- Laws of attempts: refused ones after refused ones, and one that succeeds after them.
+use Rattle.std.specs.Prelude.{◌≡◌, ℕ, false, List, [], ◌∷◌, ◌++◌}
+use Rattle.std.proofs.Common.{subst}
 use Rattle.hall.specs.declared.cargo.CargoRule.{Ghosts}
 use Rattle.hall.specs.declared.guards.TryFault.{TryFault}
 use Rattle.hall.specs.declared.view.Standing.{Standing}
-use Rattle.hall.specs.declared.view.Standing.TheVariants.{Away, Announcing}
+use Rattle.hall.specs.declared.view.Standing.TheVariants.{Inline, Exclusive, Announcing}
 use Rattle.hall.specs.declared.view.Shape.{Shape}
 use Rattle.hall.specs.declared.view.View.{View}
-use Rattle.apply_deferred.specs.Sweeping.{Sweeps}
-use Rattle.hall.specs.Views.{standing}
-use Rattle.shared_mutex.specs.Acquiring.{ElsewhereSame, RefusesAnnouncing, RefusesShared}
-use Rattle.sync_cell.specs.Attempts.{HasAnnounced, HasEntered, HasFinished, StillAnnounced, StillOutside, StillUnannounced}
-use Rattle.sync_cell.specs.Tries.{AllRefused, MeetsReaders, OnlyLooked}
-use Rattle.sync_cell.specs.TryLaws.{looked_then, meetings_looked, readers_looked, writers_looked}
+use Rattle.hall.specs.Plays.{Holding}
+use Rattle.shared_mutex.specs.Acquiring.{RefusesAnnouncing, RefusesShared, TakesShared}
+use Rattle.shared_mutex.specs.Tries.{AnnouncesAndSweeps, MeetsReaders, OnlyLooked}
+use Rattle.shared_mutex.specs.TryLaws.{all_looked, meeting_looked, reader_looked, refused_then, still_elsewhere, wins_then, writer_looked, writers_looked}
+use Rattle.sync_cell.specs.Attempts.{HasAnnounced, HasEntered, HasFinished, HasWon, StillAnnounced, StillOutside, StillRefused, StillUnannounced}
 
-module _ {V : Type 0} (refuses : V → V → TryFault → Type 0) where
-  all_then : (v u w : V) (fs gs : List TryFault) → AllRefused refuses v fs u → AllRefused refuses u gs w → AllRefused refuses v (gs ++ fs) w
-  all_then v u w fs [] a b = subst (λ (z : V). AllRefused refuses v fs z) (sym b) a
-  all_then v u w fs (g ∷ gs) a b = (b.0, all_then v u b.0 fs gs a b.1, b.2)
+module _ {P : Type 0} (misses : View P → View P → TryFault → Type 0) where
+  refused_again : (v u w : View P) (f h : TryFault) → StillRefused misses v f u → StillRefused misses u h w → StillRefused misses v h w
+  refused_again v u w f h a b = (b.0 ++ f ∷ a.0, refused_then misses v u w (f ∷ a.0) (h ∷ b.0) a.1 b.1)
 
-  -- tries that each raise a number by 1 raise it by as many as they are
-  pub all_counted : (count : V → ℕ) → ((u w : V) (f : TryFault) → refuses u w f → count w ≡ count u + 1) → (v w : V) (fs : List TryFault) → AllRefused refuses v fs w → count w ≡ count v + length fs
-  all_counted count each v w [] r = omega (arith, ap count r)
-  all_counted count each v w (f ∷ fs) r = omega (arith, each r.0 w f r.2, all_counted count each v r.0 fs r.1)
-
-module _ {P : Type 0} where
-  pub still_elsewhere : (v u w : View P) (lock : ℕ) → OnlyLooked v lock u → ElsewhereSame u w lock → ElsewhereSame v w lock
-  still_elsewhere v u w lock looked same = λ k ne. same k ne ∙ ap (λ (l : List Standing). slice_index_or l k Away) looked.standings
-
-  pub stands_still : (v u : View P) (lock : ℕ) → OnlyLooked v lock u → standing u lock ≡ standing v lock
-  stands_still v u lock looked = ap (λ (l : List Standing). slice_index_or l lock Away) looked.standings
+  -- where each refused try only looked
+  won_then : (wins : View P → View P → Type 0) (stands : Standing) (lock : ℕ) → ((u w : View P) (f : TryFault) → misses u w f → OnlyLooked u lock w) → (v u w : View P) (f : TryFault) → StillRefused misses v f u → HasWon misses wins stands u lock w → HasWon misses wins stands v lock w
+  won_then wins stands lock each v u w f a b = (
+    b.0,
+    still_elsewhere v u w lock (all_looked misses lock each v u (f ∷ a.0) a.1) b.1,
+    (b.2.0 ++ f ∷ a.0, wins_then misses lock each wins v u w (f ∷ a.0) b.2.0 a.1 b.2.1),
+  )
 
 module _ {C P : Type 0} (g : Ghosts C P) where
   pub outside_again : (v u w : View P) (lock : ℕ) (f h : TryFault) → StillOutside g v lock f u → StillOutside g u lock h w → StillOutside g v lock h w
-  outside_again v u w lock f h a b = (b.0 ++ f ∷ a.0, all_then (λ v w fault. RefusesShared g v lock w fault) v u w (f ∷ a.0) (h ∷ b.0) a.1 b.1)
+  outside_again v u w lock f h a b = refused_again (λ v w fault. RefusesShared g v lock w fault) v u w f h a b
 
   pub entered_then : (v u w : View P) (lock : ℕ) (f : TryFault) → StillOutside g v lock f u → HasEntered g u lock w → HasEntered g v lock w
-  entered_then v u w lock f a b =
-      let fs : List TryFault = f ∷ a.0 in let e = b.2.1 in let looked : OnlyLooked v lock u = readers_looked g v lock u fs a.1 in (
-        b.0,
-        still_elsewhere v u w lock looked b.1,
-        (b.2.0 ++ fs, (e.0, all_then (λ v w fault. RefusesShared g v lock w fault) v u e.0 fs b.2.0 a.1 e.1, looked_then v u e.0 lock looked e.2, e.3)),
-      )
+  entered_then v u w lock f a b = won_then (λ v w fault. RefusesShared g v lock w fault) (λ u w. TakesShared g u lock w) Inline lock (λ u w f. reader_looked g u lock w f) v u w f a b
 
   pub unannounced_again : (v u w : View P) (lock : ℕ) (f h : TryFault) → StillUnannounced g v lock f u → StillUnannounced g u lock h w → StillUnannounced g v lock h w
-  unannounced_again v u w lock f h a b = (b.0 ++ f ∷ a.0, all_then (λ v w fault. RefusesAnnouncing g v lock w fault) v u w (f ∷ a.0) (h ∷ b.0) a.1 b.1)
+  unannounced_again v u w lock f h a b = refused_again (λ v w fault. RefusesAnnouncing g v lock w fault) v u w f h a b
 
   pub announced_then : (v u w : View P) (lock : ℕ) (f : TryFault) → StillUnannounced g v lock f u → HasAnnounced g u lock w → HasAnnounced g v lock w
   announced_then v u w lock f a b =
-      let fs : List TryFault = f ∷ a.0 in let e = b.2.1 in let looked : OnlyLooked v lock u = writers_looked g v lock u fs a.1 in (
-        b.0 ∙ ap (λ s. Announcing s.slots 0 false) looked.shape,
-        still_elsewhere v u w lock looked b.1,
-        (b.2.0 ++ fs, (e.0, all_then (λ v w fault. RefusesAnnouncing g v lock w fault) v u e.0 fs b.2.0 a.1 e.1, looked_then v u e.0 lock looked e.2, e.3, e.4, (e.5.0, subst (λ (s : Shape). Sweeps g lock s.slots e.5.0 e.3 w) looked.shape e.5.1))),
-      )
+      let misses : View P → View P → TryFault → Type 0 = λ v w fault. RefusesAnnouncing g v lock w fault in
+      let Has : Shape → Type 0 = λ s. HasWon misses (λ u w. AnnouncesAndSweeps g s.slots u lock w) (Announcing s.slots 0 false) u lock w in
+      won_then misses (λ u w. AnnouncesAndSweeps g v.shape.slots u lock w) (Announcing v.shape.slots 0 false) lock (λ u w f. writer_looked g u lock w f) v u w f a (subst Has (writers_looked g v lock u (f ∷ a.0) a.1).shape b)
 
   pub announced_still : (v u w : View P) (lock : ℕ) (f h : TryFault) → StillAnnounced g v lock f u → StillAnnounced g u lock h w → StillAnnounced g v lock h w
-  announced_still v u w lock f h a b = (b.0 ++ f ∷ a.0, all_then (λ v w fault. MeetsReaders g v lock w fault) v u w (f ∷ a.0) (h ∷ b.0) a.1 b.1)
+  announced_still v u w lock f h a b = refused_again (λ v w fault. MeetsReaders g v lock w fault) v u w f h a b
 
   pub finished_then : (v u w : View P) (lock : ℕ) (f : TryFault) → StillAnnounced g v lock f u → HasFinished g u lock w → HasFinished g v lock w
-  finished_then v u w lock f a b =
-      let fs : List TryFault = f ∷ a.0 in let e = b.2.1 in let looked : OnlyLooked v lock u = meetings_looked g v lock u fs a.1 in (
-        b.0,
-        still_elsewhere v u w lock looked b.1,
-        (b.2.0 ++ fs, (e.0, all_then (λ v w fault. MeetsReaders g v lock w fault) v u e.0 fs b.2.0 a.1 e.1, looked_then v u e.0 lock looked e.2, e.3)),
-      )
+  finished_then v u w lock f a b = won_then (λ v w fault. MeetsReaders g v lock w fault) (λ u w. Holding g u lock 4 w) Exclusive lock (λ u w f. meeting_looked g u lock w f) v u w f a b

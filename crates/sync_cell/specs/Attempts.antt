@@ -6,12 +6,14 @@ use Rattle.hall.specs.declared.guards.TryFault.{TryFault}
 use Rattle.hall.specs.declared.guards.TryFault.TheVariants.{Busy, Raced}
 use Rattle.hall.specs.declared.view.Kind.{Kind}
 use Rattle.hall.specs.declared.view.Kind.TheVariants as kinds
+use Rattle.hall.specs.declared.view.Standing.{Standing}
 use Rattle.hall.specs.declared.view.Standing.TheVariants.{Inline, Exclusive, Announcing}
 use Rattle.hall.specs.declared.view.StepEntry.{StepEntry}
 use Rattle.hall.specs.declared.view.View.{View}
+use Rattle.hall.specs.Plays.{Holding}
 use Rattle.hall.specs.Views.{standing}
-use Rattle.shared_mutex.specs.Acquiring.{ElsewhereSame}
-use Rattle.sync_cell.specs.Tries.{AnnouncesAtLast, EntersAtLast, HoldsAtLast, ReadersMet, ReadersRefused, WritersRefused}
+use Rattle.shared_mutex.specs.Acquiring.{ElsewhereSame, RefusesAnnouncing, RefusesShared, TakesShared}
+use Rattle.shared_mutex.specs.Tries.{AllRefused, AnnouncesAndSweeps, MeetsReaders, WinsAtLast}
 
 -- a reader, and who announces a writer, loads once in each try; an announced writer makes one exchange to take the lock
 abbrev pub is_load : Kind → Bool
@@ -44,27 +46,36 @@ abbrev pub last_fault : List StepEntry → Option TryFault
 last_fault [] = None
 last_fault (e ∷ es) = refusal e.kind e.won e.word es
 
+module _ {P : Type 0} (misses : View P → View P → TryFault → Type 0) where
+  -- tries were all refused, the last of them with this fault
+  abbrev pub StillRefused : View P → TryFault → View P → Type 0
+  StillRefused v fault w = (faults : List TryFault) × AllRefused misses v (fault ∷ faults) w
+
+  -- tries were refused, and then one won; the pass stands so at the lock now, and elsewhere as before
+  abbrev pub HasWon : (View P → View P → Type 0) → Standing → View P → ℕ → View P → Type 0
+  HasWon wins stands v lock w = (standing w lock ≡ stands) × ElsewhereSame v w lock × ((faults : List TryFault) × WinsAtLast misses wins v lock faults w)
+
 module _ {C P : Type 0} (g : Ghosts C P) where
   -- tries to enter were all refused, the last of them with this fault
   abbrev pub StillOutside : View P → ℕ → TryFault → View P → Type 0
-  StillOutside v lock fault w = (faults : List TryFault) × ReadersRefused g lock v (fault ∷ faults) w
+  StillOutside v lock fault w = StillRefused (λ v w fault. RefusesShared g v lock w fault) v fault w
 
   -- and then one entered
   abbrev pub HasEntered : View P → ℕ → View P → Type 0
-  HasEntered v lock w = (standing w lock ≡ Inline) × ElsewhereSame v w lock × ((faults : List TryFault) × EntersAtLast g v lock faults w)
+  HasEntered v lock w = HasWon (λ v w fault. RefusesShared g v lock w fault) (λ u w. TakesShared g u lock w) Inline v lock w
 
   -- tries to announce a writer were all refused
   abbrev pub StillUnannounced : View P → ℕ → TryFault → View P → Type 0
-  StillUnannounced v lock fault w = (faults : List TryFault) × WritersRefused g lock v (fault ∷ faults) w
+  StillUnannounced v lock fault w = StillRefused (λ v w fault. RefusesAnnouncing g v lock w fault) v fault w
 
-  -- and then one announced it
+  -- and then one announced it, which swept
   abbrev pub HasAnnounced : View P → ℕ → View P → Type 0
-  HasAnnounced v lock w = (standing w lock ≡ Announcing v.shape.slots 0 false) × ElsewhereSame v w lock × ((faults : List TryFault) × AnnouncesAtLast g v lock faults w)
+  HasAnnounced v lock w = HasWon (λ v w fault. RefusesAnnouncing g v lock w fault) (λ u w. AnnouncesAndSweeps g v.shape.slots u lock w) (Announcing v.shape.slots 0 false) v lock w
 
   -- tries of an announced writer to take the lock were all refused
   abbrev pub StillAnnounced : View P → ℕ → TryFault → View P → Type 0
-  StillAnnounced v lock fault w = (misses : List TryFault) × ReadersMet g lock v (fault ∷ misses) w
+  StillAnnounced v lock fault w = StillRefused (λ v w fault. MeetsReaders g v lock w fault) v fault w
 
   -- and then one took it
   abbrev pub HasFinished : View P → ℕ → View P → Type 0
-  HasFinished v lock w = (standing w lock ≡ Exclusive) × ElsewhereSame v w lock × ((misses : List TryFault) × HoldsAtLast g v lock misses w)
+  HasFinished v lock w = HasWon (λ v w fault. MeetsReaders g v lock w fault) (λ u w. Holding g u lock 4 w) Exclusive v lock w

@@ -19,8 +19,8 @@ use Rattle.apply_deferred.specs.Sweeping.{Sweeps}
 use Rattle.apply_deferred.specs.SweepLaws.{AllSweeping, is_sweeping, same_mode, sweep_goes}
 use Rattle.shared_mutex.specs.Acquiring.{AnnouncesWriter, FoundReaders, RefusesAnnouncing, RefusesExclusive, RefusesShared, TakesExclusive, TakesShared}
 use Rattle.shared_mutex.specs.Refused.{AddsReads, MadeMore}
-use Rattle.sync_cell.specs.Tries.{AddsSteps, IsTry}
-use Rattle.sync_cell.specs.TryLaws.{adds_as, adds_none, adds_then}
+use Rattle.shared_mutex.specs.Tries.{AddsSteps, IsTry}
+use Rattle.shared_mutex.specs.TryLaws.{adds_as, adds_none, adds_then}
 use Rattle.sync_cell.specs.Attempts.{is_hold, is_load}
 use Rattle.sync_cell.specs.Gains.{AnyStep, GainedBy, GainedInOrder, gains_mode, refuses_reader, refuses_writer}
 

@@ -1,6 +1,4 @@
 pub mod Cells
-pub mod Tries
-pub mod TryLaws
 pub mod Attempts
 pub mod AttemptLaws
 pub mod Gains

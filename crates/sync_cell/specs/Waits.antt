@@ -5,7 +5,7 @@ use Rattle.hall.specs.declared.cargo.CargoRule.{Ghosts}
 use Rattle.hall.specs.declared.guards.TryFault.{TryFault}
 use Rattle.hall.specs.declared.view.View.{View}
 use Rattle.timed_wait.specs.Waiting.{AsksBelow}
-use Rattle.sync_cell.specs.Tries.{GivesUp, OnlyLooked, WritersRefused}
+use Rattle.shared_mutex.specs.Tries.{GivesUp, OnlyLooked, WritersRefused}
 
 module _ {T : Type 0} (last : T → ℕ) (answers : T → Option (List ℕ)) (deadline refusals : ℕ) (old new : T) where
   -- after each of so many refused tries the clock was asked once, and each time it answered below the deadline

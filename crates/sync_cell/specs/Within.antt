@@ -16,7 +16,7 @@ use Rattle.shared_mutex.specs.Acquiring.{ElsewhereSame}
 use Rattle.sync_cell.specs.Cells.{maps}
 use Rattle.sync_cell.specs.declared.pointers.ReadPtr.{ReadPtr}
 use Rattle.sync_cell.specs.declared.pointers.WritePtr.{WritePtr}
-use Rattle.sync_cell.specs.Tries.{EntersAtLast, WritesAtLast}
+use Rattle.shared_mutex.specs.Tries.{EntersAtLast, WritesAtLast}
 
 module _ {P : Type 0} where
   -- at each lock the pass holds the mode that it held before

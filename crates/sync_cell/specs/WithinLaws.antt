@@ -13,7 +13,7 @@ use Rattle.map_cargo.specs.StepLaws.{more_one, more_then}
 use Rattle.map_cargo.specs.Steps.{Gained, MoreSteps}
 use Rattle.apply_deferred.specs.SweepLaws.{sweep_goes}
 use Rattle.sync_cell.specs.Cells.{maps}
-use Rattle.sync_cell.specs.Tries.{AnnouncesAtLast, EntersAtLast, OnlyLooked, WritesAtLast}
+use Rattle.shared_mutex.specs.Tries.{AnnouncesAtLast, EntersAtLast, OnlyLooked, WritesAtLast}
 
 -- looks only add steps
 looked_more : (v w : View Part) (lock : ℕ) → OnlyLooked v lock w → MoreSteps v w
@@ -25,10 +25,10 @@ load_more v lock word = more_one v (after_look v kinds.Load lock word) (entry_of
 -- and so does a writer that is announced at last
 announced_more : (v : View Part) (cell : ℕ) (faults : List TryFault) (a : View Part) → AnnouncesAtLast maps v cell faults a → MoreSteps v a
 announced_more v cell faults a s =
-    let u : View Part = s.0 in let b : View Part = s.3 in let seen : ℕ = s.4.0 in let look : View Part = after_look u kinds.Load cell seen in let swept = sweep_goes maps cell v.shape.slots s.5.0 b a s.5.1 in
+    let u : View Part = s.0 in let won = s.3 in let b : View Part = won.0 in let seen : ℕ = won.1.0 in let look : View Part = after_look u kinds.Load cell seen in let swept = sweep_goes maps cell v.shape.slots won.2.0 b a won.2.1 in
     more_then v b a
     (more_then v u b (looked_more v u cell s.2)
-    (more_then u look b (load_more u cell seen) (more_one look b (entry_of look kinds.Announce cell seen true) (ap (λ (z : View Part). z.steps) s.4.2.0))))
+    (more_then u look b (load_more u cell seen) (more_one look b (entry_of look kinds.Announce cell seen true) (ap (λ (z : View Part). z.steps) won.1.2.0))))
     record { added = swept.added; stand = swept.steps }
 
 -- its words mean its map, and all else that the pass knew stays
@@ -39,7 +39,7 @@ gained_to_read v cell faults w s =
 
 pub gained_to_write : (v : View Part) (cell : ℕ) (faults misses : List TryFault) (w : View Part) → WritesAtLast maps v cell faults misses w → Gained no_entries cell v w
 gained_to_write v cell faults misses w s =
-    let first = s.1 in let is = first.4.2.0 in let last = s.2 in let swept = sweep_goes maps cell v.shape.slots first.5.0 first.3 s.0 first.5.1 in
+    let first = s.1 in let won = first.3 in let is = won.1.2.0 in let last = s.2 in let swept = sweep_goes maps cell v.shape.slots won.2.0 won.0 s.0 won.2.1 in
     gained_from no_entries cell last.0 v w
     (last.2.part ∙ swept.part ∙ ap (λ (z : View Part). z.part) is ∙ first.2.part)
     (last.2.number ∙ swept.number ∙ ap (λ (z : View Part). z.number) is ∙ first.2.number)

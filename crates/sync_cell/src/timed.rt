@@ -6,7 +6,7 @@ ghost use Rattle.hall.specs.declared.guards.TryFault.{TryFault};
 ghost use Rattle.hall.specs.declared.view.Standing.TheVariants.{Away, Inline, Exclusive};
 ghost use Rattle.shared_mutex.specs.Acquiring.{ElsewhereSame};
 ghost use Rattle.sync_cell.specs.Cells.{maps};
-ghost use Rattle.sync_cell.specs.Tries.{AddsSteps, EntersAtLast, IsPatientTry, IsTry, OnlyLooked, ReadersRefused, WritesAtLast};
+ghost use Rattle.shared_mutex.specs.Tries.{AddsSteps, EntersAtLast, IsPatientTry, IsTry, OnlyLooked, ReadersRefused, WritesAtLast};
 ghost use Rattle.sync_cell.specs.Waits.{AskedInTime, AskedTooLate, GaveUpLate};
 
 use crate::attempts::{AnnounceAttempt, FinishAttempt, ReadAttempt};

@@ -5,7 +5,7 @@ ghost use Rattle.hall.specs.Plays.{GivesBack, Releases};
 ghost use Rattle.hall.specs.Views.{standing};
 ghost use Rattle.hall.specs.declared.view.Standing.TheVariants.{Away, Inline, Exclusive};
 ghost use Rattle.shared_mutex.specs.Acquiring.{ElsewhereSame, MadeAtMost, RefusesExclusive, RefusesShared, TakesExclusive, TakesShared};
-ghost use Rattle.sync_cell.specs.Tries.{AddsSteps, IsTry};
+ghost use Rattle.shared_mutex.specs.Tries.{AddsSteps, IsTry};
 ghost use Rattle.query_rules.specs.Maps.{no_entries};
 ghost use Rattle.map_cargo.specs.History.{IsSettled};
 ghost use Rattle.sync_cell.specs.Cells.{maps};

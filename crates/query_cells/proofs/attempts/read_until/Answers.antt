@@ -1,6 +1,6 @@
 use Rattle.std.proofs.Common.{◌+◌, length, refl}
-use Rattle.sync_cell.specs.Tries.{IsPatientTry, IsTry}
-use Rattle.sync_cell.specs.TryLaws.{adds_as}
+use Rattle.shared_mutex.specs.Tries.{IsPatientTry, IsTry}
+use Rattle.shared_mutex.specs.TryLaws.{adds_as}
 use Rattle.hall.specs.declared.view.Kind.TheVariants as kinds
 use Rattle.hall.specs.Passes.{view}
 use Rattle.hall.specs.Views.{after_look}
@@ -8,7 +8,7 @@ use Rattle.sync_cell.specs.Refused.{reader_late}
 use Rattle.query_rules.specs.Maps.{no_entries}
 use Rattle.map_cargo.specs.Gaining.{gained_by}
 use Rattle.query_cells.proofs.Taking.{gained_later, late_reads, turned_away, unchanged_look, unchanged_none, unchanged_once, unchanged_then}
-use Rattle.sync_cell.specs.TrailLaws.{enters_treads, looked_weak}
+use Rattle.shared_mutex.specs.TrailLaws.{enters_treads, looked_weak}
 use Rattle.query_cells.proofs.attempts.read_until.Goals as goal
 
 pub returns-in-Ok-clause-taken : goal.returns-in-Ok-clause-taken

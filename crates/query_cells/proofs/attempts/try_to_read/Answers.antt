@@ -8,7 +8,7 @@ use Rattle.query_rules.specs.Maps.{no_entries}
 use Rattle.map_cargo.specs.Gaining.{gained_by}
 use Rattle.query_cells.proofs.Taking.{busy_reads, gained_later, reader_unchanged, turned_away, unchanged_once, unchanged_then}
 use Rattle.hall.specs.Treading.{IsWeakAt, treads_then}
-use Rattle.sync_cell.specs.TrailLaws.{takes_shared_treads, refuses_shared_treads}
+use Rattle.shared_mutex.specs.TrailLaws.{takes_shared_treads, refuses_shared_treads}
 use Rattle.sync_cell.specs.Gains.{refuses_reader}
 use Rattle.sync_cell.specs.GainLaws.{gained_last, plain_tries, reader_took}
 use Rattle.query_cells.proofs.Tries.{plain_then, raced_read, reads_more}

@@ -8,7 +8,7 @@ use Rattle.query_rules.specs.Maps.{no_entries}
 use Rattle.map_cargo.specs.Gaining.{gained_by}
 use Rattle.query_cells.proofs.Taking.{announced, busy_writes, gained_later, swept, turned_away, unchanged_then, writer_unchanged}
 use Rattle.hall.specs.Treading.{IsAt, treads_then}
-use Rattle.sync_cell.specs.TrailLaws.{takes_exclusive_treads, refuses_exclusive_treads}
+use Rattle.shared_mutex.specs.TrailLaws.{takes_exclusive_treads, refuses_exclusive_treads}
 use Rattle.sync_cell.specs.Gains.{refuses_writer}
 use Rattle.sync_cell.specs.GainLaws.{gained_last, plain_tries, tries_then, writer_took}
 use Rattle.query_cells.proofs.Tries.{plain_then, raced_write}

@@ -4,7 +4,7 @@ use Rattle.hall.specs.Passes.{view, IsPassOf}
 use Rattle.hall.specs.Treading.{IsAt, Treads}
 use Rattle.hall.specs.Views.{standing}
 use Rattle.shared_mutex.specs.Acquiring.{ElsewhereSame}
-use Rattle.sync_cell.specs.Tries.{AddsSteps}
+use Rattle.shared_mutex.specs.Tries.{AddsSteps}
 use Rattle.sync_cell.specs.Gains.{refuses_writer}
 use Rattle.sync_cell.specs.GainLaws.{IsTrySuch}
 use Rattle.query_cells.proofs.Taking.{Unchanged}

@@ -4,7 +4,8 @@ use Rattle.sync_cell.specs.Refused.{writer_late}
 use Rattle.query_rules.specs.Maps.{no_entries}
 use Rattle.map_cargo.specs.Gaining.{gained_by}
 use Rattle.query_cells.proofs.Taking.{announced_at_last, gained_later, late_unchanged, late_writes, turned_away, unchanged_look, unchanged_none, unchanged_then}
-use Rattle.sync_cell.specs.TrailLaws.{writes_treads, gave_up_treads}
+use Rattle.shared_mutex.specs.TrailLaws.{writes_treads}
+use Rattle.sync_cell.specs.TrailLaws.{gave_up_treads}
 use Rattle.query_cells.proofs.attempts.write_until.Goals as goal
 
 pub returns-in-Ok-clause-taken : goal.returns-in-Ok-clause-taken

@@ -1,7 +1,7 @@
 use Rattle.std.proofs.Common.{ap, refl, true}
 use Rattle.hall.specs.declared.view.View.{View}
-use Rattle.sync_cell.specs.Tries.{IsPatientTry, IsTry}
-use Rattle.sync_cell.specs.TryLaws.{adds_as}
+use Rattle.shared_mutex.specs.Tries.{IsPatientTry, IsTry}
+use Rattle.shared_mutex.specs.TryLaws.{adds_as}
 use Rattle.sync_cell.specs.Gains.{AnyStep}
 use Rattle.sync_cell.specs.GainLaws.{any_tries, gained_last}
 use Rattle.hall.specs.declared.view.Kind.TheVariants as kinds
@@ -10,7 +10,7 @@ use Rattle.hall.specs.Passes.{view}
 use Rattle.query_rules.specs.Maps.{no_entries}
 use Rattle.map_cargo.specs.Gaining.{gained_by}
 use Rattle.query_cells.proofs.Taking.{announced_at_last, gained_later, unchanged_look, unchanged_then}
-use Rattle.sync_cell.specs.TrailLaws.{writes_treads}
+use Rattle.shared_mutex.specs.TrailLaws.{writes_treads}
 use Rattle.query_cells.proofs.holding.hold_for_writing.Goals as goal
 
 pub returns-clause-gained : goal.returns-clause-gained

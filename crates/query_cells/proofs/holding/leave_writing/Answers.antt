@@ -5,7 +5,7 @@ use Rattle.hall.specs.declared.view.View.{View}
 use Rattle.hall.specs.Passes.{view, cargo_of}
 use Rattle.map_cargo.specs.declared.entry.Part.{Part}
 use Rattle.query_cells.proofs.Placing.{leads_once}
-use Rattle.sync_cell.specs.TrailLaws.{releases_treads}
+use Rattle.shared_mutex.specs.TrailLaws.{releases_treads}
 use Rattle.query_cells.proofs.holding.leave_writing.Goals as goal
 
 pub returns-clause-back : goal.returns-clause-back

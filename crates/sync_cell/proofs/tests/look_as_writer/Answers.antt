@@ -3,7 +3,7 @@ use Rattle.hall.specs.Passes.{view}
 use Rattle.hall.specs.Views.{mode_of}
 use Rattle.hall.specs.declared.view.Kind.TheVariants.{Load}
 use Rattle.hall.specs.declared.view.Standing.TheVariants.{Away}
-use Rattle.sync_cell.specs.TryLaws.{looked_once}
+use Rattle.shared_mutex.specs.TryLaws.{looked_once}
 use Rattle.sync_cell.proofs.tests.look_as_writer.Goals as goal
 
 pub returns-clause-modes : goal.returns-clause-modes

@@ -2,10 +2,9 @@ use Rattle.std.proofs.Common.{◌≡◌, ◌+◌, ◌∷◌, List, length, refl,
 use Rattle.hall.specs.declared.guards.TryFault.{TryFault}
 use Rattle.hall.specs.Passes.{view}
 use Rattle.hall.specs.Views.{mode_of}
-use Rattle.sync_cell.specs.AttemptLaws.{still_elsewhere}
+use Rattle.shared_mutex.specs.TryLaws.{readers_looked, still_elsewhere}
 use Rattle.sync_cell.specs.Cells.{maps}
-use Rattle.sync_cell.specs.Tries.{EntersAtLast, OnlyLooked, ReadersRefused}
-use Rattle.sync_cell.specs.TryLaws.{readers_looked}
+use Rattle.shared_mutex.specs.Tries.{EntersAtLast, OnlyLooked, ReadersRefused}
 use Rattle.sync_cell.specs.Waits.{AskedInTime, AskedTooLate}
 use Rattle.sync_cell.proofs.Acquired.{patient_looks, patient_reader}
 use Rattle.sync_cell.proofs.Counted.{entered_counted, in_time, loads, readers_counted, too_late}

@@ -4,10 +4,9 @@ use Rattle.hall.specs.declared.view.Standing.TheVariants.{Announcing, Away}
 use Rattle.hall.specs.Passes.{view, IsPassOf}
 use Rattle.hall.specs.Views.{mode_of, standing}
 use Rattle.shared_mutex.specs.Acquiring.{ElsewhereSame}
-use Rattle.sync_cell.specs.AttemptLaws.{still_elsewhere}
+use Rattle.shared_mutex.specs.TryLaws.{meetings_looked, still_elsewhere, writers_looked}
 use Rattle.sync_cell.specs.Cells.{maps}
-use Rattle.sync_cell.specs.Tries.{AnnouncesAtLast, HoldsAtLast, ReadersMet}
-use Rattle.sync_cell.specs.TryLaws.{meetings_looked, writers_looked}
+use Rattle.shared_mutex.specs.Tries.{AnnouncesAtLast, HoldsAtLast, ReadersMet}
 use Rattle.sync_cell.specs.Waits.{GaveUpLate}
 use Rattle.sync_cell.proofs.Acquired.{patient_looks, patient_writer, trying_writer}
 use Rattle.sync_cell.proofs.Counted.{announced_counted, finished_counted, holds, in_time, loads, meetings_counted, too_late, writers_counted}

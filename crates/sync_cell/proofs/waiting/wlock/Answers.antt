@@ -4,7 +4,7 @@ use Rattle.hall.specs.Passes.{view}
 use Rattle.hall.specs.Views.{standing}
 use Rattle.shared_mutex.specs.Acquiring.{ElsewhereSame}
 use Rattle.sync_cell.specs.Cells.{maps}
-use Rattle.sync_cell.specs.Tries.{AnnouncesAtLast, HoldsAtLast}
+use Rattle.shared_mutex.specs.Tries.{AnnouncesAtLast, HoldsAtLast}
 use Rattle.sync_cell.proofs.Acquired.{patient_writer}
 use Rattle.sync_cell.proofs.waiting.wlock.Goals as goal
 

@@ -6,7 +6,7 @@ use Rattle.hall.specs.Passes.{view, shape_of}
 use Rattle.hall.specs.Views.{standing}
 use Rattle.apply_deferred.specs.Sweeping.{Sweeps}
 use Rattle.sync_cell.specs.Cells.{maps}
-use Rattle.sync_cell.specs.TryLaws.{looked_none}
+use Rattle.shared_mutex.specs.TryLaws.{looked_none}
 use Rattle.sync_cell.proofs.Counted.{loads, swept_loads}
 use Rattle.sync_cell.proofs.attempts.AnnounceAttemptAttempt.attempt.Goals as goal
 
@@ -17,7 +17,7 @@ returns-clause-gives c =
     let sweep : Sweeps maps cell v.shape.slots c.scan.result a w = subst (λ (n : ℕ). Sweeps maps cell n c.scan.result a w) slots (subst (λ (j : ℕ). Sweeps maps j (shape_of c.args.self.now.hall.now).slots c.scan.result a w) starts.0 c.scan.ensures.sweep) in
     let fits = subst (λ (z : Announced). standing w z.lock ≡ Announcing (cond z.swept (shape_of c.args.self.now.hall.now).slots 0) 0 z.from_upgrade) c.scan.ensures.announced c.scan.ensures.fits.1 in
     let stands : standing w cell ≡ Announcing v.shape.slots 0 false = ap (λ (j : ℕ). standing w j) (sym starts.0) ∙ fits ∙ ap (λ (n : ℕ). Announcing n 0 c.in_ok-announced.announced.from_upgrade) slots ∙ ap (λ (b : Bool). Announcing v.shape.slots 0 b) starts.2 in
-    (refl, refl, refl, c.scan.ensures.pass, (stands, (λ k ne. c.scan.ensures.elsewhere k (λ e. ne (e ∙ starts.0)) ∙ c.in_ok-announced.ensures.elsewhere k ne), ([], (v, refl, looked_none v v cell refl, a, starts.3, (c.scan.result, sweep)))))
+    (refl, refl, refl, c.scan.ensures.pass, (stands, (λ k ne. c.scan.ensures.elsewhere k (λ e. ne (e ∙ starts.0)) ∙ c.in_ok-announced.ensures.elsewhere k ne), ([], (v, refl, looked_none v v cell refl, (a, starts.3, (c.scan.result, sweep))))))
 
 pub returns-clause-tries : goal.returns-clause-tries
 returns-clause-tries c =

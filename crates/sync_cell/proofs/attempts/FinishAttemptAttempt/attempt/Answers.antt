@@ -1,6 +1,6 @@
 use Rattle.std.proofs.Common.{refl, []}
 use Rattle.hall.specs.Passes.{view}
-use Rattle.sync_cell.specs.TryLaws.{looked_none}
+use Rattle.shared_mutex.specs.TryLaws.{looked_none}
 use Rattle.sync_cell.proofs.attempts.FinishAttemptAttempt.attempt.Goals as goal
 
 pub returns-in-Ok-clause-gives : goal.returns-in-Ok-clause-gives

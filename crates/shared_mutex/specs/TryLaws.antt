@@ -1,6 +1,6 @@
--- Laws of tries that were refused: they only looked.
-use Rattle.std.specs.Prelude.{◌≡◌, ℕ, ◌+◌, false, List, [], ◌∷◌, ◌++◌, slice_index_or}
-use Rattle.std.proofs.Common.{refl, sym, ap, ◌∙◌, subst, append_assoc}
+-- Laws of tries that were refused: they only looked, and tries that follow them go on from there.
+use Rattle.std.specs.Prelude.{◌≡◌, ℕ, ◌+◌, false, List, [], ◌∷◌, ◌++◌, length, slice_index_or}
+use Rattle.std.proofs.Common.{refl, sym, ap, ◌∙◌, subst, append_assoc, arith}
 use Rattle.std.proofs.lemmas.List.{set-get_or}
 use Rattle.std.proofs.lemmas.List.Elements.{All-nil, All-cons, All-append}
 use Rattle.hall.specs.declared.cargo.CargoRule.{Ghosts}
@@ -15,8 +15,8 @@ use Rattle.hall.specs.declared.view.StepEntry.{StepEntry}
 use Rattle.hall.specs.declared.view.View.{View}
 use Rattle.hall.specs.Treading.{IsBetween, treads_as, treads_none, treads_step, treads_then}
 use Rattle.hall.specs.Views.{after_look, entry_of, standing}
-use Rattle.shared_mutex.specs.Acquiring.{RefusesShared, RefusesAnnouncing}
-use Rattle.sync_cell.specs.Tries.{AllRefused, AddsSteps, IsLook, MeetsReaders, OnlyLooked, ReadersMet, ReadersRefused, WritersRefused, is_retract}
+use Rattle.shared_mutex.specs.Acquiring.{ElsewhereSame, RefusesShared, RefusesAnnouncing}
+use Rattle.shared_mutex.specs.Tries.{AllRefused, AddsSteps, IsLook, MeetsReaders, OnlyLooked, ReadersMet, ReadersRefused, WinsAtLast, WritersRefused, is_retract}
 
 module _ {P : Type 0} where
   pub adds_none : (is : StepEntry → Type 0) (v w : View P) → w ≡ v → AddsSteps is v w
@@ -73,10 +73,35 @@ module _ {P : Type 0} where
             (treads_as (IsBetween lock (standing u lock) (standing u lock)) (IsBetween lock (standing v lock) (standing v lock)) u w (λ m p. subst (λ x. IsBetween lock x x m) stands p) b.trail);
       }
 
-  -- refused tries that each only looked
-  pub all_looked : (refuses : View P → View P → TryFault → Type 0) (lock : ℕ) → ((u w : View P) (f : TryFault) → refuses u w f → OnlyLooked u lock w) → (v w : View P) (fs : List TryFault) → AllRefused refuses v fs w → OnlyLooked v lock w
-  all_looked refuses lock each v w [] r = looked_none v w lock r
-  all_looked refuses lock each v w (f ∷ fs) r = looked_then v r.0 w lock (all_looked refuses lock each v r.0 fs r.1) (each r.0 w f r.2)
+  -- after looks the pass stands where it did
+  pub stands_still : (v u : View P) (lock : ℕ) → OnlyLooked v lock u → standing u lock ≡ standing v lock
+  stands_still v u lock looked = ap (λ (l : List Standing). slice_index_or l lock Away) looked.standings
+
+  -- and what then stayed elsewhere had stayed from the start
+  pub still_elsewhere : (v u w : View P) (lock : ℕ) → OnlyLooked v lock u → ElsewhereSame u w lock → ElsewhereSame v w lock
+  still_elsewhere v u w lock looked same = λ k ne. same k ne ∙ ap (λ (l : List Standing). slice_index_or l k Away) looked.standings
+
+module _ {V : Type 0} (misses : V → V → TryFault → Type 0) where
+  -- refused tries that follow refused ones
+  pub refused_then : (v u w : V) (fs gs : List TryFault) → AllRefused misses v fs u → AllRefused misses u gs w → AllRefused misses v (gs ++ fs) w
+  refused_then v u w fs [] a b = subst (λ (z : V). AllRefused misses v fs z) (sym b) a
+  refused_then v u w fs (g ∷ gs) a b = (b.0, refused_then v u b.0 fs gs a b.1, b.2)
+
+  -- tries that each raise a number by 1 raise it by as many as they are
+  pub all_counted : (count : V → ℕ) → ((u w : V) (f : TryFault) → misses u w f → count w ≡ count u + 1) → (v w : V) (fs : List TryFault) → AllRefused misses v fs w → count w ≡ count v + length fs
+  all_counted count each v w [] r = omega (arith, ap count r)
+  all_counted count each v w (f ∷ fs) r = omega (arith, each r.0 w f r.2, all_counted count each v r.0 fs r.1)
+
+-- where each refused try only looked
+module _ {P : Type 0} (misses : View P → View P → TryFault → Type 0) (lock : ℕ) (each : (u w : View P) (f : TryFault) → misses u w f → OnlyLooked u lock w) where
+  -- all of them only looked
+  pub all_looked : (v w : View P) (fs : List TryFault) → AllRefused misses v fs w → OnlyLooked v lock w
+  all_looked v w [] r = looked_none v w lock r
+  all_looked v w (f ∷ fs) r = looked_then v r.0 w lock (all_looked v r.0 fs r.1) (each r.0 w f r.2)
+
+  -- a try that won after refused ones, where others had been refused before them
+  pub wins_then : (wins : View P → View P → Type 0) (v u w : View P) (fs gs : List TryFault) → AllRefused misses v fs u → WinsAtLast misses wins u lock gs w → WinsAtLast misses wins v lock (gs ++ fs) w
+  wins_then wins v u w fs gs a e = (e.0, refused_then misses v u e.0 fs gs a e.1, looked_then v u e.0 lock (all_looked v u fs a) e.2, e.3)
 
 module _ {C P : Type 0} (g : Ghosts C P) where
   pub reader_looked : (v : View P) (lock : ℕ) (w : View P) (f : TryFault) → RefusesShared g v lock w f → OnlyLooked v lock w

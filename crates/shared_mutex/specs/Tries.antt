@@ -52,6 +52,11 @@ module _ {P : Type 0} where
     pub steps : AddsSteps (IsLook v lock) v w
     pub trail : Treads (IsBetween lock (standing v lock) (standing v lock)) v w
 
+module _ {P : Type 0} (misses : View P → View P → TryFault → Type 0) (wins : View P → View P → Type 0) where
+  -- after tries that were refused with these faults, and that only looked, a try won
+  abbrev pub WinsAtLast : View P → ℕ → List TryFault → View P → Type 0
+  WinsAtLast v lock faults w = (u : View P) × AllRefused misses v faults u × OnlyLooked v lock u × wins u w
+
 module _ {C P : Type 0} (g : Ghosts C P) where
   -- tries to enter that were refused with these faults
   abbrev pub ReadersRefused : ℕ → View P → List TryFault → View P → Type 0
@@ -70,17 +75,21 @@ module _ {C P : Type 0} (g : Ghosts C P) where
   abbrev pub ReadersMet : ℕ → View P → List TryFault → View P → Type 0
   ReadersMet lock = AllRefused (λ v w fault. MeetsReaders v lock w fault)
 
-  -- after tries that were refused with these faults, and that only looked, a try entered
-  abbrev pub EntersAtLast : View P → ℕ → List TryFault → View P → Type 0
-  EntersAtLast v lock faults w = (u : View P) × ReadersRefused lock v faults u × OnlyLooked v lock u × TakesShared g u lock w
+  -- a try announced a writer, which then swept so many slots
+  abbrev pub AnnouncesAndSweeps : ℕ → View P → ℕ → View P → Type 0
+  AnnouncesAndSweeps slots v lock w = (a : View P) × AnnouncesWriter g v lock a × ((taken : ℕ) × Sweeps g lock slots taken a w)
 
-  -- and so for a try that announced a writer, which then swept
+  -- after refused tries a try entered
+  abbrev pub EntersAtLast : View P → ℕ → List TryFault → View P → Type 0
+  EntersAtLast v lock faults w = WinsAtLast (λ v w fault. RefusesShared g v lock w fault) (λ u w. TakesShared g u lock w) v lock faults w
+
+  -- and so for a try that announced a writer, which then swept all slots
   abbrev pub AnnouncesAtLast : View P → ℕ → List TryFault → View P → Type 0
-  AnnouncesAtLast v lock faults w = (u : View P) × WritersRefused lock v faults u × OnlyLooked v lock u × (a : View P) × AnnouncesWriter g u lock a × ((taken : ℕ) × Sweeps g lock v.shape.slots taken a w)
+  AnnouncesAtLast v lock faults w = WinsAtLast (λ v w fault. RefusesAnnouncing g v lock w fault) (λ u w. AnnouncesAndSweeps v.shape.slots u lock w) v lock faults w
 
   -- and so for one by which the announced writer took the lock
   abbrev pub HoldsAtLast : View P → ℕ → List TryFault → View P → Type 0
-  HoldsAtLast v lock misses w = (u : View P) × ReadersMet lock v misses u × OnlyLooked v lock u × Holding g u lock 4 w
+  HoldsAtLast v lock misses w = WinsAtLast (λ v w fault. MeetsReaders v lock w fault) (λ u w. Holding g u lock 4 w) v lock misses w
 
   -- a writer was announced at last, and then took the lock at last; it stayed announced in between
   abbrev pub WritesAtLast : View P → ℕ → List TryFault → List TryFault → View P → Type 0
