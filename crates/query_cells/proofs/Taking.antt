@@ -18,7 +18,7 @@ use Rattle.apply_deferred.specs.Sweeping.{Sweeps}
 use Rattle.shared_mutex.specs.Acquiring.{AnnouncesWriter, ElsewhereSame, FoundReaders, RefusesAnnouncing, RefusesExclusive, RefusesShared}
 use Rattle.shared_mutex.specs.Refused.{AddsReads, GoesOn, ReadAsReader, ReadAsWriter, goes_on_none, goes_on_once, goes_on_then, joined_as_reader, joined_as_writer, reads_after, swept_goes_on}
 use Rattle.shared_mutex.specs.TriesRefused.{looked_goes_on}
-use Rattle.shared_mutex.specs.Tries.{AnnouncesAtLast, GivesUp, OnlyLooked, WritersRefused}
+use Rattle.shared_mutex.specs.Tries.{AddsSteps, AnnouncesAtLast, GivesUp, IsTry, OnlyLooked, WritersRefused}
 use Rattle.shared_mutex.specs.TryLaws.{reader_looked, writer_looked}
 use Rattle.sync_cell.specs.Waits.{GaveUpLate}
 use Rattle.query_rules.specs.Maps.{no_entries}

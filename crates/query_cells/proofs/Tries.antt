@@ -57,7 +57,7 @@ module _ (g : Ghosts MapCargo Part) (v w : View Part) (lock : ℕ) (away : stand
 
 -- ---- refused queries
 pub granted_tried : (q : Query) (reply : Reply) (v w : View Part) → is_granted reply ≡ true → OnlyTried q reply v w
-granted_tried q reply v w yes = λ no cell has. absurd (not_both (is_granted reply) yes no)
+granted_tried q reply v w granted = λ refused cell has. absurd (not_both (is_granted reply) granted refused)
 
 -- a pass that was turned away from its cell, and then told so
 pub refused_tried : (v u w : View Part) (q : Query) (cell : ℕ) (reply : Reply) → named_cells q ≡ cell ∷ [] → taken_cells q ≡ cell ∷ [] → TurnedAway cell v u → LoadedOnce q u w → OnlyTried q reply v w
@@ -65,7 +65,7 @@ refused_tried v u w q cell reply names takes away load =
     let here : load.0 ≡ cell = is_one cell load.0 (subst (λ (l : List ℕ). Has l load.0) names load.2) in
     let e : StepEntry = entry_of u Load load.0 load.1 false in
     let all : AddsSteps (IsTry v cell) v w = adds_then (IsTry v cell) v u w away.tries (e ∷ [], load.3, All-cons (IsTry v cell) e [] (away.nothing.number, here, ap (λ (i : ℕ). mode_of (standing u i)) here ∙ ap mode_of away.away) (All-nil (IsTry v cell))) in
-    λ no k has. subst (λ (i : ℕ). AddsSteps (IsTry v i) v w) (sym (is_one cell k (subst (λ (l : List ℕ). Has l k) takes has))) all
+    λ refused k has. subst (λ (i : ℕ). AddsSteps (IsTry v i) v w) (sym (is_one cell k (subst (λ (l : List ℕ). Has l k) takes has))) all
 
 -- ---- tries that were granted
 placed_more : (c : MapCargo) (v w : View Part) (q : Query) (reply : Reply) → is_job reply ≡ false → IsPlacedUnder c v w q reply → MoreSteps v w
@@ -79,16 +79,16 @@ pub tells_more : (c : MapCargo) (v w : View Part) (index : ℕ) (q : Query) (rep
 tells_more c v w index q reply h = placed_more c v w q reply h.of_maps h.placing
 
 pub read_by_tries : (v u w : View Part) (cell key : ℕ) (reply : Reply) → AddsReads (λ shape number added. GainedBy (λ e. refuses_reader shape.policy e ≡ false) cell number added) v u → MoreSteps u w → GoesByTries (query.TryGet cell key) reply v w
-read_by_tries v u w cell key reply gained more = λ yes.
+read_by_tries v u w cell key reply gained more = λ granted.
     reads_then (λ shape number added. GainedBy (λ e. refuses_reader shape.policy e ≡ false) cell number added) (λ shape number added steps. still_gained (λ e. refuses_reader shape.policy e ≡ false) cell number added steps) v u w gained (more.added, more.stand)
 
 pub wrote_by_tries : (v u w : View Part) (cell key value : ℕ) (reply : Reply) → AddsReads (λ shape number added. GainedBy (λ e. refuses_writer e ≡ false) cell number added) v u → MoreSteps u w → GoesByTries (query.TryPut cell key value) reply v w
-wrote_by_tries v u w cell key value reply gained more = λ yes.
+wrote_by_tries v u w cell key value reply gained more = λ granted.
     reads_then (λ shape number added. GainedBy (λ e. refuses_writer e ≡ false) cell number added) (λ shape number added steps. still_gained (λ e. refuses_writer e ≡ false) cell number added steps) v u w gained (more.added, more.stand)
 
 -- what was refused wasn't granted
 pub busy_ungranted : (reply : Reply) → reply ≡ Busy → is_granted reply ≡ true → ⊥
-busy_ungranted reply is yes = not_both (is_granted reply) yes (ap is_granted is)
+busy_ungranted reply is granted = not_both (is_granted reply) granted (ap is_granted is)
 
 -- ---- two cells
 pub none_in_order : (q : Query) (v w : View Part) → taken_cells q ≡ [] → TakesInOrder q v w

@@ -45,7 +45,7 @@ returns-in-None-clause-tried g c =
     refused_tried (view c.args.pass.now) (view c.try_to_read.new.pass) (view c.refuse.new.pass) (TryGet c.args.cell c.args.key) c.args.cell c.refuse.result refl refl c.in-None.ensures.taken c.refuse.ensures.load
 
 pub returns-in-None-clause-tries : goal.returns-in-None-clause-tries
-returns-in-None-clause-tries g c = λ yes. absurd (busy_ungranted c.refuse.result c.refuse.ensures.reply yes)
+returns-in-None-clause-tries g c = λ granted. absurd (busy_ungranted c.refuse.result c.refuse.ensures.reply granted)
 
 pub returns-in-Some-clause-tries : goal.returns-in-Some-clause-tries
 returns-in-Some-clause-tries g c =
