@@ -6,7 +6,6 @@ ghost use Rattle.hall.specs.Views.{standing};
 ghost use Rattle.hall.specs.declared.view.Standing.TheVariants.{Away, Inline, Exclusive};
 ghost use Rattle.shared_mutex.specs.Acquiring.{ElsewhereSame, MadeAtMost, RefusesExclusive, RefusesShared, TakesExclusive, TakesShared};
 ghost use Rattle.shared_mutex.specs.Tries.{AddsSteps, IsTry};
-ghost use Rattle.query_rules.specs.Maps.{no_entries};
 ghost use Rattle.map_cargo.specs.History.{IsSettled};
 ghost use Rattle.sync_cell.specs.Cells.{maps};
 
@@ -85,7 +84,7 @@ pub fn unlock_write(hall: &Hall<MapCargo>, pass: &mut Pass<MapCargo>, ptr: Write
     requires pass { IsPassOf hall.now pass.old }
     requires cell { ptr.guard.lock < (shape_of hall.now).locks }
     requires exclusive { standing (view pass.old) ptr.guard.lock ≡ Exclusive }
-    requires settled { IsSettled no_entries ptr.guard.lock (view pass.old).part }
+    requires settled { IsSettled ptr.guard.lock (view pass.old).part }
     ensures pass { IsPassOf hall.now pass.new }
     ensures step { Releases maps (view pass.old) ptr.guard.lock 8 (view pass.new) }
     ensures away { standing (view pass.new) ptr.guard.lock ≡ Away }
