@@ -75,7 +75,7 @@ pub fn ask<R: Wait, T: Clock>(
     ensures late { IsLateBy query.now (T.last clock.new) result }
     ensures clock { AsksClock T.last T.answers clock.old clock.new query.now result }
     ensures forced { IsForced query.now result (view pass.old) (view pass.new) }
-    ensures tried { OnlyTried query.now result (view pass.old) (view pass.new) }
+    ensures refused { OnlyTried query.now result (view pass.old) (view pass.new) }
     ensures tries { GoesByTries query.now result (view pass.old) (view pass.new) }
     ensures order { TakesInOrder query.now (view pass.old) (view pass.new) }
     ensures trail { Treads (MayTread query.now) (view pass.old) (view pass.new) }

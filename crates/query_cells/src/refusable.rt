@@ -56,7 +56,7 @@ pub(crate) fn ask_try_get<R: Wait>(
     ensures trail { Treads (IsWeakAt cell) (view pass.old) (view pass.new) }
     ensures tells { Tells (cargo_of hall.now) (view pass.old) (view pass.new) index (Query.TryGet cell key) result }
     ensures forced { IsForced (Query.TryGet cell key) result (view pass.old) (view pass.new) }
-    ensures tried { OnlyTried (Query.TryGet cell key) result (view pass.old) (view pass.new) }
+    ensures refused { OnlyTried (Query.TryGet cell key) result (view pass.old) (view pass.new) }
     ensures tries { GoesByTries (Query.TryGet cell key) result (view pass.old) (view pass.new) }
     ensures alone { (shape_of hall.now).seats ≡ 1 → is_granted result ≡ true }
     ensures late { (last : ℕ) → IsLateBy (Query.TryGet cell key) last result }
@@ -86,7 +86,7 @@ pub(crate) fn ask_try_put<R: Wait>(
     ensures trail { Treads (IsAt cell) (view pass.old) (view pass.new) }
     ensures tells { Tells (cargo_of hall.now) (view pass.old) (view pass.new) index (Query.TryPut cell key value) result }
     ensures forced { IsForced (Query.TryPut cell key value) result (view pass.old) (view pass.new) }
-    ensures tried { OnlyTried (Query.TryPut cell key value) result (view pass.old) (view pass.new) }
+    ensures refused { OnlyTried (Query.TryPut cell key value) result (view pass.old) (view pass.new) }
     ensures tries { GoesByTries (Query.TryPut cell key value) result (view pass.old) (view pass.new) }
     ensures alone { (shape_of hall.now).seats ≡ 1 → is_granted result ≡ true }
     ensures late { (last : ℕ) → IsLateBy (Query.TryPut cell key value) last result }
@@ -116,7 +116,7 @@ pub(crate) fn ask_get_by<R: Wait, T: Clock>(
     ensures trail { Treads (IsWeakAt cell) (view pass.old) (view pass.new) }
     ensures tells { Tells (cargo_of hall.now) (view pass.old) (view pass.new) index (Query.GetBy cell key deadline) result }
     ensures forced { IsForced (Query.GetBy cell key deadline) result (view pass.old) (view pass.new) }
-    ensures tried { OnlyTried (Query.GetBy cell key deadline) result (view pass.old) (view pass.new) }
+    ensures refused { OnlyTried (Query.GetBy cell key deadline) result (view pass.old) (view pass.new) }
     ensures alone { (shape_of hall.now).seats ≡ 1 → is_granted result ≡ true }
     ensures late { IsLateBy (Query.GetBy cell key deadline) (T.last clock.new) result }
     ensures clock { AsksClock T.last T.answers clock.old clock.new (Query.GetBy cell key deadline) result }
@@ -152,7 +152,7 @@ pub(crate) fn ask_put_by<R: Wait, T: Clock>(
     ensures trail { Treads (IsAt cell) (view pass.old) (view pass.new) }
     ensures tells { Tells (cargo_of hall.now) (view pass.old) (view pass.new) index (Query.PutBy cell key value deadline) result }
     ensures forced { IsForced (Query.PutBy cell key value deadline) result (view pass.old) (view pass.new) }
-    ensures tried { OnlyTried (Query.PutBy cell key value deadline) result (view pass.old) (view pass.new) }
+    ensures refused { OnlyTried (Query.PutBy cell key value deadline) result (view pass.old) (view pass.new) }
     ensures alone { (shape_of hall.now).seats ≡ 1 → is_granted result ≡ true }
     ensures late { IsLateBy (Query.PutBy cell key value deadline) (T.last clock.new) result }
     ensures clock { AsksClock T.last T.answers clock.old clock.new (Query.PutBy cell key value deadline) result }

@@ -46,6 +46,6 @@ returns-in-Ok-clause-clock g c = granted_asks g.T.Clock.last g.T.Clock.answers c
 pub returns-in-Err-clause-clock : goal.returns-in-Err-clause-clock
 returns-in-Err-clause-clock g c = late_asks g.T.Clock.last g.T.Clock.answers c.args.clock.now c.read_until.new.clock c.args.deadline c.in-Err.now c.refuse.result c.refuse.ensures.reply c.in-Err.ensures.clock
 
-pub returns-in-Err-clause-tried : goal.returns-in-Err-clause-tried
-returns-in-Err-clause-tried g c =
+pub returns-in-Err-clause-refused : goal.returns-in-Err-clause-refused
+returns-in-Err-clause-refused g c =
     refused_tried (view c.args.pass.now) (view c.read_until.new.pass) (view c.refuse.new.pass) (GetBy c.args.cell c.args.key c.args.deadline) c.args.cell c.refuse.result refl refl c.in-Err.ensures.taken c.refuse.ensures.load

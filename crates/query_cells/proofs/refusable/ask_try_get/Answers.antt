@@ -40,8 +40,8 @@ returns-in-None-clause-trail g c =
     let v = view c.args.pass.now in let u = view c.try_to_read.new.pass in let w = view c.refuse.new.pass in
     treads_then (IsWeakAt c.args.cell) v u w c.in-None.ensures.trail (treads_none (IsWeakAt c.args.cell) u w c.refuse.ensures.tells.number c.refuse.ensures.trail)
 
-pub returns-in-None-clause-tried : goal.returns-in-None-clause-tried
-returns-in-None-clause-tried g c =
+pub returns-in-None-clause-refused : goal.returns-in-None-clause-refused
+returns-in-None-clause-refused g c =
     refused_tried (view c.args.pass.now) (view c.try_to_read.new.pass) (view c.refuse.new.pass) (TryGet c.args.cell c.args.key) c.args.cell c.refuse.result refl refl c.in-None.ensures.taken c.refuse.ensures.load
 
 pub returns-in-None-clause-tries : goal.returns-in-None-clause-tries
