@@ -5,7 +5,7 @@ ghost use Rattle.hall.specs.Treading.{Treads};
 ghost use Rattle.hall.specs.Views.{standing};
 ghost use Rattle.hall.specs.declared.view.Standing.TheVariants.{Inline, Exclusive};
 ghost use Rattle.query_rules.specs.declared.query.Query.{Query};
-ghost use Rattle.query_rules.specs.Maps.{no_entries, reply_of, less};
+ghost use Rattle.query_rules.specs.Maps.{reply_of, less};
 ghost use Rattle.map_cargo.specs.Cells.{Means};
 ghost use Rattle.map_cargo.specs.History.{words_of, plain_of, IsSettled, IsRested};
 ghost use Rattle.map_cargo.specs.Steps.{Suits, Alike, Reworded, IsIdle, Left};
@@ -141,12 +141,12 @@ fn lessen(
     requires suits { Suits hall.now }
     requires cell { cell < (cargo_of hall.now).cells }
     requires held { standing (view pass.old) cell ≡ Exclusive }
-    requires settled { IsSettled no_entries cell (view pass.old).part }
-    requires has { has ≡ (plain_of no_entries (view pass.old).part cell).value_at key }
+    requires settled { IsSettled cell (view pass.old).part }
+    requires has { has ≡ (plain_of (view pass.old).part cell).value_at key }
     requires enough { n ≤ unwrap_or has 0 }
     ensures pass { IsPassOf hall.now pass.new × Alike (view pass.old) (view pass.new) }
     ensures part { Reworded cell (view pass.old).part (view pass.new).part }
-    ensures less { Means (words_of (view pass.new).part cell) (less (plain_of no_entries (view pass.old).part cell) key n) }
+    ensures less { Means (words_of (view pass.new).part cell) (less (plain_of (view pass.old).part cell) key n) }
 {
     if let Some(amount) = has {
         let Ok(_) = put(hall, pass, cell, key, amount - n) else {
@@ -172,7 +172,7 @@ fn shift(
     requires held { HoldsTwo from to Exclusive (view pass.old) }
     ensures pass { IsPassOf hall.now pass.new }
     ensures words { ChangesWords (view pass.old) (view pass.new) }
-    ensures says { reply_of (cargo_of hall.now).rows (plain_of no_entries (view pass.old).part) (Query.Move from to key n) ≡ Some result }
+    ensures says { reply_of (cargo_of hall.now).rows (plain_of (view pass.old).part) (Query.Move from to key n) ≡ Some result }
     ensures from { Leaves from (view pass.old) (view pass.new) (Query.Move from to key n) result }
     ensures to { Leaves to (view pass.old) (view pass.new) (Query.Move from to key n) result }
 {
@@ -209,7 +209,7 @@ fn look_up_two(
     ensures pass { IsPassOf hall.now pass.new }
     ensures words { ChangesWords (view pass.old) (view pass.new) }
     ensures part { (view pass.new).part ≡ (view pass.old).part }
-    ensures says { reply_of (cargo_of hall.now).rows (plain_of no_entries (view pass.old).part) (Query.Both first second key) ≡ Some result }
+    ensures says { reply_of (cargo_of hall.now).rows (plain_of (view pass.old).part) (Query.Both first second key) ≡ Some result }
 {
     let one = get(hall, pass, first, key);
     let other = get(hall, pass, second, key);

@@ -5,7 +5,6 @@ use Rattle.hall.specs.declared.view.Kind.TheVariants as kinds
 use Rattle.hall.specs.Passes.{view}
 use Rattle.hall.specs.Views.{after_look}
 use Rattle.sync_cell.specs.Refused.{reader_late}
-use Rattle.query_rules.specs.Maps.{no_entries}
 use Rattle.map_cargo.specs.Gaining.{gained_by}
 use Rattle.query_cells.proofs.Taking.{gained_later, late_reads, turned_away, unchanged_look, unchanged_none, unchanged_once, unchanged_then}
 use Rattle.shared_mutex.specs.TrailLaws.{enters_treads, looked_weak}
@@ -18,7 +17,7 @@ returns-in-Ok-clause-taken g c =
       record {
         stands = e.stands;
         elsewhere = e.elsewhere;
-        gained = gained_later c.args.cell v u (view c.rlock_until.new.pass) (unchanged_then v s.0 u (unchanged_look v s.0 c.args.cell s.2) (unchanged_once s.0 kinds.Load c.args.cell s.3.0)) (gained_by no_entries _ _ _ _ _ _ s.3.2.0);
+        gained = gained_later c.args.cell v u (view c.rlock_until.new.pass) (unchanged_then v s.0 u (unchanged_look v s.0 c.args.cell s.2) (unchanged_once s.0 kinds.Load c.args.cell s.3.0)) (gained_by _ _ _ _ _ _ s.3.2.0);
       },
     )
 

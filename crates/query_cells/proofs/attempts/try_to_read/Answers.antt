@@ -4,7 +4,6 @@ use Rattle.hall.specs.Passes.{view}
 use Rattle.hall.specs.declared.view.View.{View}
 use Rattle.hall.specs.Views.{after_look, entry_of}
 use Rattle.shared_mutex.specs.Refused.{reader_refused}
-use Rattle.query_rules.specs.Maps.{no_entries}
 use Rattle.map_cargo.specs.Gaining.{gained_by}
 use Rattle.query_cells.proofs.Taking.{busy_reads, gained_later, reader_unchanged, turned_away, unchanged_once, unchanged_then}
 use Rattle.hall.specs.Treading.{IsWeakAt, treads_then}
@@ -21,7 +20,7 @@ returns-in-Ok-clause-taken g c =
       record {
         stands = e.stands;
         elsewhere = λ k ne. e.elsewhere k ne ∙ c.loop.invariant.elsewhere k ne;
-        gained = gained_later c.args.cell (view c.args.pass.now) u (view c.try_rlock.new.pass) (unchanged_then (view c.args.pass.now) v u c.loop.invariant.quiet (unchanged_once v kinds.Load c.args.cell s.1.0)) (gained_by no_entries _ _ _ _ _ _ s.1.2.0);
+        gained = gained_later c.args.cell (view c.args.pass.now) u (view c.try_rlock.new.pass) (unchanged_then (view c.args.pass.now) v u c.loop.invariant.quiet (unchanged_once v kinds.Load c.args.cell s.1.0)) (gained_by _ _ _ _ _ _ s.1.2.0);
       },
     )
 

@@ -4,7 +4,6 @@ use Rattle.hall.specs.declared.view.View.{View}
 use Rattle.hall.specs.Views.{entry_of}
 use Rattle.hall.specs.Passes.{view}
 use Rattle.shared_mutex.specs.Refused.{exclusive_refused}
-use Rattle.query_rules.specs.Maps.{no_entries}
 use Rattle.map_cargo.specs.Gaining.{gained_by}
 use Rattle.query_cells.proofs.Taking.{announced, busy_writes, gained_later, swept, turned_away, unchanged_then, writer_unchanged}
 use Rattle.hall.specs.Treading.{IsAt, treads_then}
@@ -21,7 +20,7 @@ returns-in-Ok-clause-taken g c =
       record {
         stands = e.stands;
         elsewhere = λ k ne. e.elsewhere k ne ∙ c.loop.invariant.elsewhere k ne;
-        gained = gained_later c.args.cell (view c.args.pass.now) z (view c.try_wlock.new.pass) (unchanged_then (view c.args.pass.now) u z (unchanged_then (view c.args.pass.now) v u c.loop.invariant.quiet (announced _ v u c.args.cell s.1.1)) (swept _ c.args.cell v.shape.slots s.1.3 u z s.1.4)) (gained_by no_entries _ _ _ _ _ _ s.1.5.0);
+        gained = gained_later c.args.cell (view c.args.pass.now) z (view c.try_wlock.new.pass) (unchanged_then (view c.args.pass.now) u z (unchanged_then (view c.args.pass.now) v u c.loop.invariant.quiet (announced _ v u c.args.cell s.1.1)) (swept _ c.args.cell v.shape.slots s.1.3 u z s.1.4)) (gained_by _ _ _ _ _ _ s.1.5.0);
       },
     )
 

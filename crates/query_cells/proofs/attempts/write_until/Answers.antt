@@ -1,7 +1,6 @@
 use Rattle.std.proofs.Common.{◌+◌, ⊎_elim, length, refl}
 use Rattle.hall.specs.Passes.{view}
 use Rattle.sync_cell.specs.Refused.{writer_late}
-use Rattle.query_rules.specs.Maps.{no_entries}
 use Rattle.map_cargo.specs.Gaining.{gained_by}
 use Rattle.query_cells.proofs.Taking.{announced_at_last, gained_later, late_unchanged, late_writes, turned_away, unchanged_look, unchanged_none, unchanged_then}
 use Rattle.shared_mutex.specs.TrailLaws.{writes_treads}
@@ -16,7 +15,7 @@ returns-in-Ok-clause-taken g c =
         stands = e.stands;
         elsewhere = e.elsewhere;
         gained = gained_later c.args.cell v last.0 (view c.wlock_until.new.pass)
-            (unchanged_then v s.0 last.0 (announced_at_last _ v c.args.cell e.step.0 s.0 s.1) (unchanged_look s.0 last.0 c.args.cell last.2)) (gained_by no_entries _ _ _ _ _ _ last.3.0);
+            (unchanged_then v s.0 last.0 (announced_at_last _ v c.args.cell e.step.0 s.0 s.1) (unchanged_look s.0 last.0 c.args.cell last.2)) (gained_by _ _ _ _ _ _ last.3.0);
       },
     )
 
