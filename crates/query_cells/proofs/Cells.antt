@@ -98,7 +98,7 @@ same_plain : (p r : Part) → r.made ≡ p.made → plain_of r ≡ plain_of p
 same_plain p r same = λ i cell. map_made (lookup unmade (same i) cell) cell
 
 -- what was made of a cell that the pass holds for writing may be told
-pub may_answer : (c : MapCargo) (v w : View Part) (cell : ℕ) (q : Query) (said : Said) → named_cells q ≡ cell ∷ [] → cell < c.cells → Alike v w → Reworded cell v.part w.part → standing v cell ≡ Exclusive → reply_of c.rows (plain_of v.part) q ≡ Some said → 1 ≤ v.quota → IsRested v.part → mode_for q ≡ exclusive_mode
+pub may_answer : (c : MapCargo) (v w : View Part) (cell : ℕ) (q : Query) (said : Said) → named_cells q ≡ cell ∷ [] → cell < c.cells → Alike v w → Reworded cell v.part w.part → standing v cell ≡ Exclusive → reply_of c.rows (plain_of v.part) q ≡ Some said → 1 ≤ v.quota → IsRested v.part → mode_for q said ≡ exclusive_mode
     → MayTell c w q said
 may_answer c v w cell q said names near alike part held says quota rested mode = record {
   near = λ k has. subst (λ (i : ℕ). i < c.cells) (sym (one_in (named_cells q) cell k names has)) near;
@@ -116,14 +116,14 @@ stored_here v w lock cell q said at part h =
 
 -- queries that ask for a value, and such that put one
 pub asks_get : (lock cell key : ℕ) → lock ≡ cell → AsksValue (query.Get cell key) lock key
-asks_get lock cell key at = subst (λ (k : ℕ). AsksValue (query.Get cell key) k key) (sym at) record { names = refl; mode = refl; says = λ rows maps. refl }
+asks_get lock cell key at = subst (λ (k : ℕ). AsksValue (query.Get cell key) k key) (sym at) record { names = refl; mode = λ said. refl; says = λ rows maps. refl }
 
 pub asks_put : (lock cell key value : ℕ) → lock ≡ cell → AsksPut (query.Put cell key value) lock key value
-asks_put lock cell key value at = subst (λ (k : ℕ). AsksPut (query.Put cell key value) k key value) (sym at) record { names = refl; mode = refl; says = λ rows maps. refl; leaves = λ maps said. refl }
+asks_put lock cell key value at = subst (λ (k : ℕ). AsksPut (query.Put cell key value) k key value) (sym at) record { names = refl; mode = λ said. refl; says = λ rows maps. refl; leaves = λ maps said. refl }
 
 pub may_put : (c : MapCargo) (v w : View Part) (cell key value : ℕ) (q : Query) (said : Said) → AsksPut q cell key value → cell < c.cells → Alike v w → Reworded cell v.part w.part → standing v cell ≡ Exclusive → reply_of c.rows (plain_of v.part) (query.Put cell key value) ≡ Some said → 1 ≤ v.quota → IsRested v.part
     → MayTell c w q said
-may_put c v w cell key value q said asks near alike part held says quota rested = may_answer c v w cell q said asks.names near alike part held (asks.says c.rows (plain_of v.part) ∙ says) quota rested asks.mode
+may_put c v w cell key value q said asks near alike part held says quota rested = may_answer c v w cell q said asks.names near alike part held (asks.says c.rows (plain_of v.part) ∙ says) quota rested (asks.mode said)
 
 pub stored_put : (v w : View Part) (cell key value : ℕ) (q : Query) (said : Said) → AsksPut q cell key value → Reworded cell v.part w.part → Leaves cell v w (query.Put cell key value) said → Stored w cell q said
 stored_put v w cell key value q said asks part h = stored_here v w cell cell q said refl part (subst (Means (words_of w.part cell)) (sym (ap (λ (f : Maps). f cell) (asks.leaves (plain_of v.part) said))) h)

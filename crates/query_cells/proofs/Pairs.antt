@@ -210,15 +210,15 @@ pub idle_alike : (v w : View Part) → Alike v w → IsRested w.part → IsIdle 
 idle_alike v w alike rested idle = (λ k. still_stands v w k alike.standings ∙ idle.0 k, rested)
 
 -- two cells that are held for reading are held as their query asks
-pub two_for : (v w : View Part) (a b key : ℕ) → HoldsTwo a b Inline v → Alike v w → HoldsFor (query.Both a b key) w
-two_for v w a b key h alike = record {
+pub two_for : (v w : View Part) (a b key : ℕ) (said : Said) → HoldsTwo a b Inline v → Alike v w → HoldsFor (query.Both a b key) said w
+two_for v w a b key said h alike = record {
   each = λ k has. one_of_two (λ (i : ℕ). mode_of (standing w i) ≡ shared_mode) a b k (spoken_two (a == b) a b k has)
       (ap mode_of (still_stands v w a alike.standings ∙ h.first)) (ap mode_of (still_stands v w b alike.standings ∙ h.second));
 }
 
 -- of two cells that are the same one nothing is held
-pub none_for_move : (v : View Part) (a b key n : ℕ) → a ≡ b → HoldsFor (query.Move a b key n) v
-none_for_move v a b key n e = record { each = λ k has. absurd (subst (λ (t : Bool). Has (cond t [] (a ∷ b ∷ [])) k) (eq_test a b e) has) }
+pub none_for_move : (v : View Part) (a b key n : ℕ) (said : Said) → a ≡ b → HoldsFor (query.Move a b key n) said v
+none_for_move v a b key n said e = record { each = λ k has. absurd (subst (λ (t : Bool). Has (cond t [] (a ∷ b ∷ [])) k) (eq_test a b e) has) }
 
-pub none_for_both : (v : View Part) (a b key : ℕ) → a ≡ b → HoldsFor (query.Both a b key) v
-none_for_both v a b key e = record { each = λ k has. absurd (subst (λ (t : Bool). Has (cond t [] (a ∷ b ∷ [])) k) (eq_test a b e) has) }
+pub none_for_both : (v : View Part) (a b key : ℕ) (said : Said) → a ≡ b → HoldsFor (query.Both a b key) said v
+none_for_both v a b key said e = record { each = λ k has. absurd (subst (λ (t : Bool). Has (cond t [] (a ∷ b ∷ [])) k) (eq_test a b e) has) }

@@ -127,11 +127,11 @@ spoken_named (query.Take k n) cell h = h
 spoken_named query.Audit cell h = h
 
 -- a pass that holds the cells that a query names exclusively holds those that its reply speaks of so
-pub holds_written : (v : View Part) (q : Query) → mode_for q ≡ exclusive_mode → ((cell : ℕ) → Has (named_cells q) cell → mode_of (standing v cell) ≡ exclusive_mode) → HoldsFor q v
-holds_written v q mode holds = record { each = λ cell has. holds cell (spoken_named q cell has) ∙ sym mode }
+pub holds_written : (v : View Part) (q : Query) (said : Said) → mode_for q said ≡ exclusive_mode → ((cell : ℕ) → Has (named_cells q) cell → mode_of (standing v cell) ≡ exclusive_mode) → HoldsFor q said v
+holds_written v q said mode holds = record { each = λ cell has. holds cell (spoken_named q cell has) ∙ sym mode }
 
 -- a read that was placed was told
-pub read_told : (c : MapCargo) (v w : View Part) (index : ℕ) (q : Query) (said : Said) (n : ℕ) → MayPlace c v (entry_for v.number index q said) → HoldsFor q v → Alike v w → w.part ≡ placed v.part n (entry_for v.number index q said) → v.part.seen ≤ n → w.steps ≡ cargo_step v LoadCargo (number_place c) n false ∷ v.steps
+pub read_told : (c : MapCargo) (v w : View Part) (index : ℕ) (q : Query) (said : Said) (n : ℕ) → MayPlace c v (entry_for v.number index q said) → HoldsFor q said v → Alike v w → w.part ≡ placed v.part n (entry_for v.number index q said) → v.part.seen ≤ n → w.steps ≡ cargo_step v LoadCargo (number_place c) n false ∷ v.steps
     → Tells c v w index q (Placed (2 * n) said)
 read_told c v w index q said n may holds alike is behind step = record {
   number = alike.number;
@@ -152,7 +152,7 @@ read_follows c v w index q said n may is rested = record {
 }
 
 -- a write that was drawn was told
-pub write_told : (c : MapCargo) (v w : View Part) (index : ℕ) (q : Query) (said : Said) (n : ℕ) → MayDraw c v (entry_for v.number index q said) → Stays v w → Drew 8 v.part w.part n (entry_for v.number index q said) → w.quota + 1 ≡ v.quota → mode_for q ≡ exclusive_mode → length v.standings ≡ v.shape.locks
+pub write_told : (c : MapCargo) (v w : View Part) (index : ℕ) (q : Query) (said : Said) (n : ℕ) → MayDraw c v (entry_for v.number index q said) → Stays v w → Drew 8 v.part w.part n (entry_for v.number index q said) → w.quota + 1 ≡ v.quota → mode_for q said ≡ exclusive_mode → length v.standings ≡ v.shape.locks
     → w.steps ≡ row_stores v c n (entry_for v.number index q said) 8 ++ (cargo_step v AddCargo (number_place c) n true ∷ v.steps) → Tells c v w index q (Placed (2 * n + 1) said)
 write_told c v w index q said n may stays drew quota mode size steps = record {
   number = stays.number;
@@ -162,7 +162,7 @@ write_told c v w index q said n may stays drew quota mode size steps = record {
   kind = said_kind c.rows (plain_of v.part) q said may.said;
   of_maps = refl;
   told = (n, place_write_at n said may.writes, drew.fresh, chosen_true (is_write said) _ _ may.writes (drew.seen, drew.told));
-  placing = placed_write c v w q said n (entry_for v.number index q said) stays (holds_written v q mode may.holds) size mode may.writes (place_write_at n said may.writes) steps;
+  placing = placed_write c v w q said n (entry_for v.number index q said) stays (holds_written v q said mode may.holds) size mode may.writes (place_write_at n said may.writes) steps;
 }
 
 pub write_follows : (c : MapCargo) (v w : View Part) (index : ℕ) (q : Query) (said : Said) (n : ℕ) → MayDraw c v (entry_for v.number index q said) → Drew 8 v.part w.part n (entry_for v.number index q said) → Follows v w q said
@@ -184,8 +184,8 @@ may_place c v index q said may reads = record {
   reads = reads;
 }
 
-pub may_hold : (c : MapCargo) (v : View Part) (q : Query) (said : Said) → MayTell c v q said → HoldsFor q v
-may_hold c v q said may = holds_written v q may.mode may.holds
+pub may_hold : (c : MapCargo) (v : View Part) (q : Query) (said : Said) → MayTell c v q said → HoldsFor q said v
+may_hold c v q said may = holds_written v q said may.mode may.holds
 
 pub may_draw : (c : MapCargo) (v : View Part) (index : ℕ) (q : Query) (said : Said) → MayTell c v q said → is_write said ≡ true → MayDraw c v (entry_for v.number index q said)
 may_draw c v index q said may writes = record { near = may.near; holds = may.holds; said = may.says; writes = writes; rested = may.rested }

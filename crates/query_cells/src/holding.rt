@@ -5,6 +5,8 @@ ghost use Rattle.hall.specs.Treading.{IsAt, IsWeakAt, Treads};
 ghost use Rattle.hall.specs.Views.{standing};
 ghost use Rattle.hall.specs.declared.view.Standing.TheVariants.{Away, Inline, Exclusive};
 ghost use Rattle.shared_mutex.specs.Acquiring.{ElsewhereSame};
+ghost use Rattle.shared_mutex.specs.Refused.{AddsReads};
+ghost use Rattle.sync_cell.specs.Gains.{AnyStep, GainedBy};
 ghost use Rattle.map_cargo.specs.History.{IsSettled};
 ghost use Rattle.map_cargo.specs.Steps.{Gained, Left};
 ghost use Rattle.query_cells.specs.Answers.{LeadsBack};
@@ -28,6 +30,7 @@ pub(crate) fn hold_for_reading<R: Wait>(
     ensures held { (result.guard.lock ≡ cell) × (standing (view pass.new) cell ≡ Inline) }
     ensures elsewhere { ElsewhereSame (view pass.old) (view pass.new) cell }
     ensures gained { Gained cell (view pass.old) (view pass.new) }
+    ensures tries { AddsReads (λ shape number added. GainedBy AnyStep cell number added) (view pass.old) (view pass.new) }
     ensures trail { Treads (IsWeakAt cell) (view pass.old) (view pass.new) }
 {
     rlock(rt, hall, pass, cell)
@@ -47,6 +50,7 @@ pub(crate) fn hold_for_writing<R: Wait>(
     ensures held { (result.guard.lock ≡ cell) × (standing (view pass.new) cell ≡ Exclusive) }
     ensures elsewhere { ElsewhereSame (view pass.old) (view pass.new) cell }
     ensures gained { Gained cell (view pass.old) (view pass.new) }
+    ensures tries { AddsReads (λ shape number added. GainedBy AnyStep cell number added) (view pass.old) (view pass.new) }
     ensures trail { Treads (IsAt cell) (view pass.old) (view pass.new) }
 {
     wlock(rt, hall, pass, cell)

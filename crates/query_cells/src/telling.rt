@@ -56,7 +56,7 @@ pub(crate) fn tell_read(
     requires pass { IsPassOf hall.now pass.old }
     requires suits { Suits hall.now }
     requires may { MayPlace (cargo_of hall.now) (view pass.old) (entry_for (view pass.old).number index query.now said) }
-    requires holds { HoldsFor query.now (view pass.old) }
+    requires holds { HoldsFor query.now said (view pass.old) }
     requires rested { IsRested (view pass.old).part }
     ensures pass { IsPassOf hall.now pass.new × Alike (view pass.old) (view pass.new) }
     ensures tells { Tells (cargo_of hall.now) (view pass.old) (view pass.new) index query.now result }
@@ -88,7 +88,7 @@ fn tell_write(
     requires pass { IsPassOf hall.now pass.old }
     requires suits { Suits hall.now }
     requires may { MayDraw (cargo_of hall.now) (view pass.old) (entry_for (view pass.old).number index query.now said) }
-    requires mode { mode_for query.now ≡ exclusive_mode }
+    requires mode { mode_for query.now said ≡ exclusive_mode }
     requires quota { 1 ≤ (view pass.old).quota }
     ensures pass { IsPassOf hall.now pass.new × Stays (view pass.old) (view pass.new) }
     ensures tells { Tells (cargo_of hall.now) (view pass.old) (view pass.new) index query.now result }
@@ -151,7 +151,7 @@ pub(crate) fn answer_read(
     requires held { standing (view pass.old) ptr.guard.lock ≡ Inline }
     requires only { OnlyAt ptr.guard.lock (view pass.old) }
     requires may { MayPlace (cargo_of hall.now) (view pass.old) (entry_for (view pass.old).number index query.now said) }
-    requires mode { mode_for query.now ≡ shared_mode }
+    requires mode { mode_for query.now said ≡ shared_mode }
     requires rested { IsRested (view pass.old).part }
     ensures pass { IsPassOf hall.now pass.new }
     ensures idle { IsIdle (view pass.new) }

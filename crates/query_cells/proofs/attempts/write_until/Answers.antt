@@ -1,4 +1,4 @@
-use Rattle.std.proofs.Common.{refl}
+use Rattle.std.proofs.Common.{◌+◌, ⊎_elim, length, refl}
 use Rattle.hall.specs.Passes.{view}
 use Rattle.sync_cell.specs.Refused.{writer_late}
 use Rattle.map_cargo.specs.Gaining.{gained_by}
@@ -27,10 +27,16 @@ returns-in-Err-clause-reads g c =
 pub returns-in-Err-clause-taken : goal.returns-in-Err-clause-taken
 returns-in-Err-clause-taken g c =
     let v = view c.args.pass.now in let w = view c.wlock_until.new.pass in let late = c.in-Err.late in let e = c.in-Err.ensures in
-    turned_away v v w c.args.cell (unchanged_none v) (late_unchanged _ _ _ c.args.deadline c.args.cell v w _ _ late.fault late.now e.step) (λ k ne. refl) e.elsewhere e.stands
+    turned_away v v w c.args.cell (unchanged_none v) (late_unchanged _ _ _ c.args.deadline c.args.cell v w _ _ late.fault late.now e.step) (λ k ne. refl) e.elsewhere e.stands e.steps
 
 pub returns-in-Ok-clause-trail : goal.returns-in-Ok-clause-trail
 returns-in-Ok-clause-trail g c = let s = c.in-Ok.ensures.step in writes_treads _ (view c.args.pass.now) (view c.wlock_until.new.pass) c.args.cell s.0 s.1 s.2
 
 pub returns-in-Err-clause-trail : goal.returns-in-Err-clause-trail
 returns-in-Err-clause-trail g c = gave_up_treads _ (view c.args.pass.now) (view c.wlock_until.new.pass) c.args.cell _ _ c.args.deadline _ _ c.in-Err.late.fault c.in-Err.late.now c.in-Err.ensures.step
+
+pub returns-in-Ok-clause-clock : goal.returns-in-Ok-clause-clock
+returns-in-Ok-clause-clock g c = let s = c.in-Ok.ensures.step in (length s.0 + length s.1, s.3)
+
+pub returns-in-Err-clause-clock : goal.returns-in-Err-clause-clock
+returns-in-Err-clause-clock g c = ⊎_elim (λ t. (length t.0 + 1, t.3)) (λ t. (length t.0 + (length t.1 + 1), t.3)) c.in-Err.ensures.step
