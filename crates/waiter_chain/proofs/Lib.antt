@@ -20,5 +20,7 @@ pub mod Settles
 pub mod Entering
 pub mod Shown
 pub mod JobPolls
+pub mod Polled
 pub mod Gives
+pub mod Endings
 pub mod Helps

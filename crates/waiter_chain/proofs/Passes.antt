@@ -4,11 +4,11 @@ use mathlib.Core.Option.{none}
 use Rattle.atomic_table.specs.Table.{step, rest}
 use Rattle.waiter_chain.specs.declared.view.Next.{Next}
 use Rattle.waiter_chain.specs.declared.view.OwnSlot.{OwnSlot}
-use Rattle.waiter_chain.specs.declared.view.OwnSlot.TheVariants.{Unused}
+use Rattle.waiter_chain.specs.declared.view.OwnSlot.TheVariants.{Unused, InHand, Unrun}
 use Rattle.waiter_chain.specs.declared.view.Ownership.{Ownership}
 use Rattle.waiter_chain.specs.declared.view.Entry.{Entry}
 use Rattle.waiter_chain.specs.declared.view.Stage.TheVariants.{Cleared, Ready, Owns}
-use Rattle.waiter_chain.specs.Steps.{SeatState, SoundJob, Wins, Ranged, ownership, ownership_with, passed, retook, with_next, run_slot, settled_notes, settled, served, with_steps, paid, moved, stays, entry, posting, link_seen, job_done}
+use Rattle.waiter_chain.specs.Steps.{SeatState, SoundJob, Wins, Ranged, OwnHand, ownership, ownership_with, passed, retook, with_next, run_slot, settled_notes, settled, served, with_steps, paid, moved, stays, entry, posting, link_seen, job_done}
 use Rattle.waiter_chain.specs.Goods.{Goods, part}
 use Rattle.waiter_chain.specs.Chains.{entering}
 use Rattle.waiter_chain.specs.Calls.{Won, WonWith, OwnsBy, SawOthers, TookAs, FollowsAs, WaitsBehind, readied_state, EnteredAs, LinkSeen, MayServe, Served}
@@ -35,9 +35,14 @@ module _ {P : Type 0} where
       (λ e. (ap (λ (x : SeatState P). x.0.stage) e, ap (λ (x : SeatState P). x.1) e, ap (λ (x : SeatState P). x.0.number) e))
       (λ t. (ap (λ (x : SeatState P). x.0.stage) t.2, ap (λ (x : SeatState P). x.1) t.2, ap (λ (x : SeatState P). x.0.number) t.2))
 
-  pub follows : (slots : ℕ) (ran : List (P × P)) (old : Turn) (m l n : SeatState P) (k : Ownership P) (f : Follow) → old.first ≡ old.end → m.0.stage ≡ Owns k → k.mark ≡ old.mark → SawOthers m l k → TookAs slots old.mark l n f → FollowsAs slots ran old m n f
-  follows slots ran old m l n k follow.Free empty mine mark others w = absurd w
-  follows slots ran old m l n k (follow.Waits t node) empty mine mark others w =
+  -- and it has the turn still
+  pub saw_turn : (slots : ℕ) (t : Turn) (hand : Option P) (m l : SeatState P) (k : Ownership P) → SawOthers m l k → OwnsBy slots t hand m k → OwnsBy slots t hand l (passed k)
+  saw_turn slots t hand m l k others a = let s = saw m l k others in
+      (s.0, a.1, a.2, a.3, s.1 ∙ a.4 ∙ (λ i. (0, hand) ∷ rest (sym s.1 i)), a.5, (a.6.0, subst (λ (y : ℕ × List (ℕ × Option P)). OwnHand k.mine y.0 y.1) (λ i. (sym s.2 i, rest (sym s.1 i))) a.6.1))
+
+  pub follows : (slots count : ℕ) (ran : List (P × P)) (old : Turn) (m l n : SeatState P) (k : Ownership P) (f : Follow) → old.first ≡ old.end → m.0.stage ≡ Owns k → k.mark ≡ old.mark → SawOthers m l k → TookAs slots old.mark l n f → FollowsAs slots count ran old m n f
+  follows slots count ran old m l n k follow.Free empty mine mark others w = absurd w
+  follows slots count ran old m l n k (follow.Waits t node) empty mine mark others w =
       let s = saw m l k others in let e = owns-injective w.5.0 (passed k) (sym w.5.1 ∙ s.0) in let took : retook w.5.0 t.first ≡ retook k t.first = ap (λ (x : Ownership P). retook x t.first) e in (
         w.0,
         w.1,
@@ -100,16 +105,23 @@ module _ {P : Type 0} where
             ),
       )
 
+  -- a job slot in hand stays there as the own jobs are settled
+  own_run : (y : OwnSlot P) (n : ℕ) (c : List (ℕ × Option P)) → OwnHand y n c → OwnHand (run_slot y) n c
+  own_run Unused n c h = h
+  own_run InHand n c h = h
+  own_run (Unrun j) n c h = h
+
   -- what the store of 3 tells, by the turn
-  pub served_told : (relates : P → P → P → P → Type 0) (slots : ℕ) (ran : List (P × P)) (t u : Turn) (link place : ℕ) (m n : SeatState P) → place ≡ 1 + 2 * (t.first - 2) → u.first ≡ link → u.end ≡ t.end → u.mark ≡ t.mark
-      → MayServe relates slots ran t link m → job_done ran (step slots place 3 0 none) m 3 n → Served slots ran t link m n u
-  served_told relates slots ran t u link place m n is first end mark e s =
+  pub served_told : (relates : P → P → P → P → Type 0) (slots count : ℕ) (ran : List (P × P)) (t u : Turn) (link place : ℕ) (m n : SeatState P) → place ≡ 1 + 2 * (t.first - 2) → u.first ≡ link → u.end ≡ t.end → u.mark ≡ t.mark
+      → MayServe relates slots count ran t link m → job_done count ran (step slots place 3 0 none) m 3 n → Served slots count ran t link m n u
+  served_told relates slots count ran t u link place m n is first end mark e s =
       let k : Ownership P = s.0 in let x : Next P = s.1 in let same : e.0 ≡ k = owns-injective e.0 k (sym e.6 ∙ s.4) in
       let behind : x.behind ≡ link = ap (λ (y : Option (Next P)). behind_in y link) (sym s.5 ∙ sym (ap (λ (y : Ownership P). y.next) same) ∙ e.10) in
-      let hand : (0, Some s.2) ∷ s.3 ≡ (0, Some e.4) ∷ [] = sym s.6 ∙ ap (λ (c : List (ℕ × Option P)). rest (rest c)) e.12 in
-      let none-left : s.3 ≡ [] = ap (λ (c : List (ℕ × Option P)). rest c) hand in
-      let state = s.8 ∙ (λ i. (with_steps (settled m.0 (m.0.quota - length ran) ran (settled_notes k s.2)) (Owns (served (settled_notes k s.2) (behind i) s.2)) (m.0.steps ++ entry m.0 Serve (is i) 3 ∷ []), (0, Some s.2) ∷ none-left i)) in
-      let kend : k.end ≡ t.end = ap (λ (y : Ownership P). y.end) (sym same) ∙ e.8 in let kmark : k.mark ≡ t.mark = ap (λ (y : Ownership P). y.mark) (sym same) ∙ e.9 in let own : k.mine ≡ Unused = ap (λ (y : Ownership P). y.mine) (sym same) ∙ e.11 in (
+      let left : s.3 ≡ rest (rest (rest m.1)) = sym (ap (λ (c : List (ℕ × Option P)). rest c) s.6) in
+      let state = s.8 ∙ (λ i. (with_steps (settled m.0 (m.0.quota - count) ran (settled_notes k s.2)) (Owns (served (settled_notes k s.2) (behind i) s.2)) (m.0.steps ++ entry m.0 Serve (is i) 3 ∷ []), (0, Some s.2) ∷ left i)) in
+      let kend : k.end ≡ t.end = ap (λ (y : Ownership P). y.end) (sym same) ∙ e.8 in let kmark : k.mark ≡ t.mark = ap (λ (y : Ownership P). y.mark) (sym same) ∙ e.9 in
+      let own : OwnHand (run_slot k.mine) m.0.number (rest (rest (rest m.1))) = own_run k.mine m.0.number _ (subst (λ (y : Ownership P). OwnHand y.mine m.0.number (rest (rest (rest m.1)))) same e.11) in
+      let number : n.0.number ≡ m.0.number = ap (λ (z : SeatState P). z.0.number) state in let hand = ap (λ (z : SeatState P). z.1) state in (
         first,
         end,
         mark,
@@ -121,12 +133,12 @@ module _ {P : Type 0} where
             sym first,
             kend ∙ sym end,
             kmark ∙ sym mark,
-            ap (λ (z : SeatState P). z.1) state,
+            hand ∙ (λ i. (0, Some s.2) ∷ rest (sym hand i)),
             subst (λ (y : ℕ × ℕ). Ranged slots y.0 y.1) (λ i. ((behind ∙ sym first) i, (kend ∙ sym end) i)) s.7,
-            (refl, ap (λ (y : OwnSlot P). run_slot y) own),
+            (refl, subst (λ (y : ℕ × List (ℕ × Option P)). OwnHand (run_slot k.mine) y.0 y.1) (λ i. (sym number i, rest (sym hand i))) own),
           ),
         ),
-        (k, s.2, s.4, s.6 ∙ (λ i. (0, Some s.2) ∷ none-left i), state),
+        (k, s.2, s.4, s.6 ∙ (λ i. (0, Some s.2) ∷ left i), state),
       )
     where
       behind_in : Option (Next P) → ℕ → ℕ
