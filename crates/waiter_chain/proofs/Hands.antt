@@ -1,12 +1,15 @@
 -- What stays as an owner goes on with a chain, so that its ownership may still end.
-use Rattle.std.proofs.Common.{Option, Some, ◌≡◌, ℕ, ◌+◌, ◌*◌, ◌≤◌, List, [], ◌∷◌, ◌++◌, length, false, refl, sym, ap, ◌∙◌, subst, ⊎_elim, append_assoc, arith}
+use Rattle.std.proofs.Common.{Option, Some, ◌≡◌, ℕ, ◌+◌, ◌*◌, ◌≤◌, List, [], ◌∷◌, ◌++◌, length, false, refl, sym, ap, ◌∙◌, subst, inl, ⊎_elim, append_assoc, arith}
 use Rattle.atomic_table.specs.Table.{rest}
 use Rattle.waiter_chain.specs.Goods.{Goods, Runs, Counts}
 use Rattle.waiter_chain.specs.Chains.{owed}
-use Rattle.waiter_chain.specs.Steps.{SeatState, Ranged, WinsBack, ownership, ownership_with, ownership_back, seen_job, retook, entry}
-use Rattle.waiter_chain.specs.Calls.{HasTurn, Won, WonWith, KindSeen, MayEnd, FollowsAs, SawOthers}
+use Rattle.waiter_chain.specs.Steps.{SeatState, Ranged, OwnHand, WinsBack, ownership, ownership_with, ownership_back, seen_job, retook, entry}
+use Rattle.waiter_chain.specs.Calls.{OwnsBy, HasTurn, Won, WonWith, KindSeen, MayEnd, FollowsAs, SawOthers}
 use Rattle.waiter_chain.specs.declared.view.Entry.{Entry}
 use Rattle.waiter_chain.specs.declared.view.Ownership.{Ownership}
+use Rattle.waiter_chain.specs.declared.view.OwnSlot.{OwnSlot}
+use Rattle.waiter_chain.specs.declared.view.OwnSlot.TheVariants.{Unused, InHand, Unrun}
+use Rattle.waiter_chain.specs.Hands.{StandsAt}
 use Rattle.waiter_chain.specs.declared.view.Event.TheVariants.{Free, TakeChain}
 use Rattle.waiter_chain.specs.declared.turn.Turn.{Turn}
 use Rattle.waiter_chain.specs.declared.turn.Kind.{Kind}
@@ -70,6 +73,19 @@ module _ {P : Type 0} where
   -- one slot in hand, and those behind it
   pub behind_one : (x : ℕ × Option P) (more c : List (ℕ × Option P)) → c ≡ x ∷ more → c ≡ x ∷ rest c
   behind_one x more c hand = hand ∙ (λ i. x ∷ rest (sym hand i))
+
+  own_long : (y : OwnSlot P) (n : ℕ) (own : List (ℕ × Option P)) → OwnHand y n own → length own ≤ 1
+  own_long Unused n own h = omega (arith, ap length h)
+  own_long InHand n own h = omega (arith, ap length h.1)
+  own_long (Unrun j) n own h = omega (arith, ap length h.1)
+
+  -- slot 0 of an owner stands at the front
+  pub owner_front : (slots : ℕ) (t : Turn) (hand : Option P) (m : SeatState P) (k : Ownership P) → OwnsBy slots t hand m k → StandsAt m.0.number 0 [] (rest m.1)
+  owner_front slots t hand m k o = (omega (arith, own_long k.mine m.0.number (rest m.1) o.6.1), inl (refl, refl))
+
+  -- and it may have anything in it
+  pub owner_put : (slots : ℕ) (t : Turn) (hand value : Option P) (m n : SeatState P) (k : Ownership P) → OwnsBy slots t hand m k → n ≡ (m.0, (0, value) ∷ rest m.1) → OwnsBy slots t value n k
+  owner_put slots t hand value m n k o e = subst (λ (z : SeatState P). OwnsBy slots t value z k) (sym e) (o.0, o.1, o.2, o.3, refl, o.5, o.6)
 
   -- what a pass that has just become the owner may do
   pub won_turn : (rule : Goods P → Type 0) (slots : ℕ) (t : Turn) (m n : SeatState P) (e : Entry) → Won rule slots t m e n → HasTurn slots t n

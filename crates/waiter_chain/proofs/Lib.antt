@@ -9,6 +9,7 @@ pub mod Numbers
 pub mod Closes
 pub mod Opens
 pub mod Hands
+pub mod Turns
 pub mod Links
 pub mod Collects
 pub mod Serves

@@ -98,19 +98,19 @@ module _ {P : Type 0} where
   -- the next node's link was loaded: 0, or the word that it waits behind, and then its two slots are in the owner's hand
   abbrev pub LinkSeen : (Goods P → Type 0) → ℕ → SeatState P → SeatState P → ℕ → Type 0
   LinkSeen rule x m n link = (link ≡ 0 → n ≡ stays m (entry m.0 LoadLink (2 + 2 * x) link))
-      × (link ≢ 0 → (k : Ownership P) × (job : P) × (a : Option P) × (m.0.stage ≡ Owns k) × (n ≡ (moved m.0 (Owns (with_next k x link job)) (entry m.0 LoadLink (2 + 2 * x) link), (2 + 2 * x, a) ∷ (1 + 2 * x, Some job) ∷ m.1)) × SoundJob rule k.value (part m.0.quota m.0.own) x job)
+      × (link ≢ 0 → (k : Ownership P) × (job : P) × (a : Option P) × (m.0.stage ≡ Owns k) × (n ≡ (moved m.0 (Owns (with_next k x link job)) (entry m.0 LoadLink (2 + 2 * x) link), m.1 ++ (2 + 2 * x, a) ∷ (1 + 2 * x, Some job) ∷ [])) × (m.0.number ≢ x) × SoundJob rule k.value (part m.0.quota m.0.own) x job)
 
   -- the owner has run these jobs of its own, of which it pays for so many, and then the next node's job: the answer lies in that node's slot, and the value is in hand
   abbrev pub MayServe : (P → P → P → P → Type 0) → ℕ → ℕ → List (P × P) → Turn → ℕ → SeatState P → Type 0
-  MayServe relates slots count ran t link m = (k : Ownership P) × (job : P) × (answer : P) × (mid : P) × (now : P) × (z : Option P) × (m.0.stage ≡ Owns k) × (k.first ≡ t.first) × (k.end ≡ t.end) × (k.mark ≡ t.mark)
-      × (k.next ≡ Some (record { node = t.first - 2; behind = link; job = job })) × OwnHand k.mine m.0.number (rest (rest (rest m.1)))
-      × (m.1 ≡ (2 + 2 * (t.first - 2), Some answer) ∷ (1 + 2 * (t.first - 2), z) ∷ (0, Some now) ∷ rest (rest (rest m.1))) × (1 < t.first) × (2 * t.first < slots + 3)
+  MayServe relates slots count ran t link m = (k : Ownership P) × (job : P) × (answer : P) × (mid : P) × (now : P) × (z : Option P) × (own : List (ℕ × Option P)) × (m.0.stage ≡ Owns k) × (k.first ≡ t.first) × (k.end ≡ t.end) × (k.mark ≡ t.mark)
+      × (k.next ≡ Some (record { node = t.first - 2; behind = link; job = job })) × OwnHand k.mine m.0.number own
+      × (m.1 ≡ (0, Some now) ∷ (own ++ (2 + 2 * (t.first - 2), Some answer) ∷ (1 + 2 * (t.first - 2), z) ∷ [])) × (1 < t.first) × (2 * t.first < slots + 3)
       × Runs relates k.value ran mid × (count ≤ m.0.quota) × Counts (owed k.mine) ran count × relates mid job answer now
 
   -- that node is done, and the owner's own jobs are settled
   abbrev pub Served : ℕ → ℕ → List (P × P) → Turn → ℕ → SeatState P → SeatState P → Turn → Type 0
   Served slots count ran t link m n u = (u.first ≡ link) × (u.end ≡ t.end) × (u.mark ≡ t.mark) × HasTurn slots u n
-      × ((k : Ownership P) × (now : P) × (m.0.stage ≡ Owns k) × (rest (rest m.1) ≡ (0, Some now) ∷ rest (rest (rest m.1))) × (n ≡ (with_steps (settled m.0 (m.0.quota - count) ran (settled_notes k now)) (Owns (served (settled_notes k now) link now)) (m.0.steps ++ entry m.0 Serve (1 + 2 * (t.first - 2)) 3 ∷ []), (0, Some now) ∷ rest (rest (rest m.1)))))
+      × ((k : Ownership P) × (now : P) × (answer : P) × (z : Option P) × (own : List (ℕ × Option P)) × (m.0.stage ≡ Owns k) × (m.1 ≡ (0, Some now) ∷ (own ++ (2 + 2 * (t.first - 2), Some answer) ∷ (1 + 2 * (t.first - 2), z) ∷ [])) × (n ≡ (with_steps (settled m.0 (m.0.quota - count) ran (settled_notes k now)) (Owns (served (settled_notes k now) link now)) (m.0.steps ++ entry m.0 Serve (1 + 2 * (t.first - 2)) 3 ∷ []), (0, Some now) ∷ own)))
 
   -- the pass has its answer, and is idle
   abbrev pub Rested : SeatState P → SeatState P → Type 0

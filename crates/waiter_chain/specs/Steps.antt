@@ -227,7 +227,7 @@ module _ {P : Type 0} where
   -- the next node has not linked; or the owner takes its two slots, with its job in the one
   abbrev pub link_seen : (Goods P → Type 0) → Telling P
   link_seen rule st m r n = (k : Ownership P) × (m.0.stage ≡ Owns k) × (r ≡ 0 → n ≡ stays m (entry m.0 LoadLink st.word r))
-      × (r ≢ 0 → (job : P) × (a : Option P) × (n ≡ (moved m.0 (Owns (with_next k (k.first - 2) r job)) (entry m.0 LoadLink st.word r), (2 + 2 * (k.first - 2), a) ∷ (1 + 2 * (k.first - 2), Some job) ∷ m.1))
+      × (r ≢ 0 → (job : P) × (a : Option P) × (n ≡ (moved m.0 (Owns (with_next k (k.first - 2) r job)) (entry m.0 LoadLink st.word r), (2 + 2 * (k.first - 2), a) ∷ (1 + 2 * (k.first - 2), Some job) ∷ m.1)) × (m.0.number ≢ k.first - 2)
       × SoundJob rule k.value (part m.0.quota m.0.own) (k.first - 2) job)
 
   -- the next node's job has run: the owner gives its two slots back, and settles these jobs of its own

@@ -442,16 +442,4 @@ impl<P: Freight> Chain<P> {
     {
         self.grant_as::<Brand>(pass, turn, runs);
     }
-
-    /// A plain read and write of the slot at the head of the pass's hand. It is no step on a word.
-    pub fn move_slot(&self, pass: &mut ChainPass<P>, slot: u64, value: Option<P>) -> Option<P>
-        requires own { pass.old.seat.table_id ≡ self.now.table.shared.table_id }
-        requires held { (hand : _) × (pass.old.seat.me.1 ≡ (slot, hand) ∷ rest pass.old.seat.me.1) }
-        ensures own { (pass.new.seat.table_id ≡ pass.old.seat.table_id) × (pass.new.seat.id ≡ pass.old.seat.id) × (pass.new.behind ≡ pass.old.behind) }
-        ensures moved { (pass.old.seat.me.1 ≡ (slot, result) ∷ rest pass.old.seat.me.1) × (pass.new.seat.me ≡ (pass.old.seat.me.0, (slot, value) ∷ rest pass.old.seat.me.1)) }
-    {
-        self.table
-            .shared
-            .exchange(&mut pass.seat, slot as usize, value)
-    }
 }

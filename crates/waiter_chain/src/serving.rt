@@ -1,6 +1,5 @@
 //! What an owner does for the next node, and what a node with a job finds.
 ghost use Rattle.std.specs.Prelude.{◌≡◌, ◌≢◌, ℕ, ◌+◌, ◌-◌, ◌*◌, ◌^◌, ◌<◌, ◌≤◌, [], ◌∷◌, ◌++◌, true, false, length, Some, None};
-ghost use Rattle.atomic_table.specs.Table.{turned};
 ghost use Rattle.waiter_chain.specs.Goods.{Goods};
 ghost use Rattle.waiter_chain.specs.Steps.{entry, moved};
 ghost use Rattle.waiter_chain.specs.Calls.{IsIdle, HasTurn, KindSeen, LinkSeen, MayServe, Served, Rested};
@@ -52,8 +51,13 @@ impl<P: Freight> Chain<P> {
         ensures own { (pass.new.seat.table_id ≡ pass.old.seat.table_id) × (pass.new.seat.id ≡ pass.old.seat.id) }
         ensures link { LinkSeen M.known (turn.now.first - 2) pass.old.seat.me pass.new.seat.me result }
     {
-        let link = 2 + 2 * (turn.first - 2) as usize;
-        self.table.shared.load::<LinkOf<M>>(&mut pass.seat, link)
+        let place = 2 + 2 * (turn.first - 2) as usize;
+        let link = self.table.shared.load::<LinkOf<M>>(&mut pass.seat, place);
+        if link != 0 {
+            // The two slots go behind the others.
+            pass.turn_by(2);
+        }
+        link
     }
 
     /// One load of the link of the next node, which was seen to wait with a job. Where it is not 0, that node's job slot
@@ -84,6 +88,8 @@ impl<P: Freight> Chain<P> {
     {
         let Turn { first, end, mark } = turn;
         let status = 1 + 2 * (first - 2) as usize;
+        // The two slots of that node come to the front, to be given back.
+        pass.turn_by(10);
         self.table
             .shared
             .store::<Serve<M>>(&mut pass.seat, status, 3);
@@ -122,15 +128,5 @@ impl<P: Freight> Chain<P> {
     {
         let status = 1 + 2 * pass.number as usize;
         self.table.shared.store::<Rest>(&mut pass.seat, status, 0);
-    }
-}
-
-impl<P> ChainPass<P> {
-    /// The slot at the head of the pass's hand goes behind the others.
-    pub fn turn_held(&mut self)
-        ensures own { (self.new.seat.table_id ≡ self.old.seat.table_id) × (self.new.seat.id ≡ self.old.seat.id) × (self.new.behind ≡ self.old.behind) }
-        ensures turned { self.new.seat.me ≡ (self.old.seat.me.0, turned self.old.seat.me.1) }
-    {
-        self.seat.turn();
     }
 }
