@@ -40,6 +40,7 @@ module _ {V J O X : Type 0} (rooms : V → ℕ) (means : V → J → Result O X 
   RanNext slots count ran t link kept m n u later = (job : J) × (answer : JobAnswer O X) × (l : SeatState (Parcel V J O X)) × (s : SeatState (Parcel V J O X)) × Related rooms means (Value kept) (Posted job) (Answered answer) (Value later) × (l.0 ≡ m.0) × Served slots count ran t link l s u
       × (s.1 ≡ (0, Some (Value later)) ∷ rest s.1) × (n ≡ (s.0, (0, None) ∷ rest s.1))
 
+module _ {V J O X : Type 0} where
   -- the pass owns the lock by this turn with this value in its hand, and has run no job of its own that isn't settled
   abbrev pub HasValue : ℕ → Turn → Kept V → SeatState (Parcel V J O X) → Type 0
   HasValue slots t kept m = (k : Ownership (Parcel V J O X)) × OwnsBy slots t None m k × (k.value ≡ Value kept) × Counts (owed k.mine) [] 0

@@ -29,6 +29,6 @@ returns-clause-steps g c =
         l.ensures.owner,
         r.ensures.related,
         released_at _ r.new.pass.runs.count _ _ r.new.owner.turn l.result.turn r.new.pass.pass.seat.me l.new.pass.pass.seat.me _ None _ _ (omega (arith, r.ensures.due, l.ensures.runs.1)) (r.ensures.listed ∙ ap (λ xs. xs ++ (Posted c.args.job, Answered r.result) ∷ []) l.ensures.runs.0) r.ensures.same.1 r.ensures.same.0
-            (won_hand g.V.Room.rooms g.J.Job.means c.args.self.now.chain.table.shared.key _ _ _ _ _ l.ensures.owner) u.ensures.released,
+            (won_hand g.V.Room.rooms g.J.Job.means c.args.self.now.chain.table.shared.key c.args.self.now.chain.table.shared.table_id.slots c.args.pass.now.pass.seat.me l.new.pass.pass.seat.me l.result.turn l.result.kept l.ensures.owner) u.ensures.released,
       ),
     )

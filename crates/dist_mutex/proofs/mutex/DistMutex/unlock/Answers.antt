@@ -1,4 +1,4 @@
-use Rattle.std.proofs.Common.{◌≡◌, [], ◌∷◌, Some, None, refl, subst, arith}
+use Rattle.std.proofs.Common.{◌≡◌, [], ◌∷◌, Some, None, ap, subst, arith}
 use Rattle.atomic_table.specs.Table.{rest}
 use Rattle.waiter_chain.proofs.Hands.{owner_front, owner_put}
 use Rattle.combine_job.specs.Parcels.{Related}
@@ -35,3 +35,9 @@ returns-clause-released g c =
     let w = c.requires.owner in let m = c.args.pass.now.pass.seat.me in let slots = c.args.self.now.chain.table.shared.table_id.slots in
     let e = (c.move_slot-empty.ensures.moved [] (rest m.1) None w.owns.4 (owner_front slots c.args.owner.turn None m w.notes w.owns)).1 in
     subst (λ z. ReleasedAs slots c.args.pass.now.runs.count c.args.pass.now.runs.log.items c.args.owner.turn z c.hand_over-next.new.pass.pass.seat.me c.hand_over-next.result) e c.hand_over-next.ensures.released
+
+pub invariant_of-pass : goal.invariant_of-pass
+invariant_of-pass g c =
+    let w = c.requires.owner in let m = c.args.pass.now.pass.seat.me in let slots = c.args.self.now.chain.table.shared.table_id.slots in
+    let e = (c.move_slot-empty.ensures.moved [] (rest m.1) None w.owns.4 (owner_front slots c.args.owner.turn None m w.notes w.owns)).1 in
+    record { few = omega (arith, c.args.pass.now.few, c.args.pass.now.pass.same.2, c.move_slot-empty.new.pass.same.2, ap (λ z. z.0.quota) e) }
