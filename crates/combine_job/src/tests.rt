@@ -161,7 +161,8 @@ fn give_up<A: Abort, V: Room, J: Job<V>>(
     pass: &mut ChainPass<Parcel<V, J>>,
     turn: Turn,
     kept: Kept<V>,
-) requires own { pass.old.seat.table_id ≡ chain.now.table.shared.table_id }
+)
+    requires own { pass.old.seat.table_id ≡ chain.now.table.shared.table_id }
     requires has { HasValue chain.now.table.shared.table_id.slots turn kept pass.old.seat.me }
     ensures own { pass.new.seat.table_id ≡ pass.old.seat.table_id }
     ensures idle { IsIdle pass.new.seat.me }
@@ -170,7 +171,10 @@ fn give_up<A: Abort, V: Room, J: Job<V>>(
     let _empty = chain.move_slot(pass, 0, Some(Parcel::Value(kept)));
     match chain.next(pass, turn, &none) {
         Follow::Free => {}
-        Follow::Waits { turn: _turn, node: _ } => panic!(rt; "another came"),
+        Follow::Waits {
+            turn: _turn,
+            node: _,
+        } => panic!(rt; "another came"),
     }
 }
 
@@ -180,7 +184,8 @@ fn wait_with<A: Abort, V: Room, J: Job<V>>(
     chain: &Chain<Parcel<V, J>>,
     pass: &mut ChainPass<Parcel<V, J>>,
     job: J,
-) requires own { pass.old.seat.table_id ≡ chain.now.table.shared.table_id }
+)
+    requires own { pass.old.seat.table_id ≡ chain.now.table.shared.table_id }
     requires idle { IsIdle pass.old.seat.me }
     requires quota { 1 ≤ pass.old.seat.me.0.quota }
     requires ready { J.is_ready job }

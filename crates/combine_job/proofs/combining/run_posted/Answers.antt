@@ -55,8 +55,7 @@ step_over-turn-requires-clause-serves g c =
     let f2 = front_moved d.0.mine x d.3 m0.0 d.9 d.10 None d.2 None (Some o.result.1) c.move_slot-empty.result c.move_slot-posted.new.pass.seat.me c.move_slot-empty.new.pass.seat.me j1.1 c.move_slot-empty.ensures.moved in
     let a3 = answer_moved d.0.mine x d.3 m0.0 d.9 d.10 (1 + 2 * c.node.result + 1) (Some o.result.1) d.2 None (Some o.result.0) c.move_slot-old.result c.move_slot-empty.new.pass.seat.me c.move_slot-old.new.pass.seat.me (omega (arith, c.node.ensures)) f2.1 c.move_slot-old.ensures.moved in
     let job : c.unwrap.result ≡ Posted d.1 = inside c.unwrap.result (Posted d.1) (sym c.unwrap.ensures ∙ j1.0) in
-    let related = subst (λ y. Related g.V.Room.rooms g.J.Job.means (Value c.args.kept) y o.result.0 o.result.1) (sym c.into_job-job.ensures ∙ job) o.ensures.related in
-    (
+    let related = subst (λ y. Related g.V.Room.rooms g.J.Job.means (Value c.args.kept) y o.result.0 o.result.1) (sym c.into_job-job.ensures ∙ job) o.ensures.related in (
       d.0,
       Posted d.1,
       o.result.0,
