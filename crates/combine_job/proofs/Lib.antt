@@ -1,3 +1,4 @@
 pub mod Positions
 pub mod Posting
 pub mod Rooms
+pub mod Finding

@@ -31,7 +31,7 @@ pub fn post<V: Room, J: Job<V>>(
 {
     let slot = 1 + 2 * pass.number();
     chain.hold(pass);
-    let _empty = chain.move_held(pass, slot, Some(Parcel::Posted(job)));
+    let _empty = chain.move_slot(pass, slot, Some(Parcel::Posted(job)));
     chain.arrive(pass, Kind::WithJob)
 }
 
@@ -46,10 +46,7 @@ pub fn collect<V: Room, J: Job<V>>(
     ensures collected { (job : _) × (pass.old.seat.me.0.stage ≡ Done job (Answered result)) × (pass.new.seat.me ≡ (collected pass.old.seat.me.0 (job, Answered result) (pass.old.seat.me.0.steps ++ entry pass.old.seat.me.0 SetStatus (1 + 2 * pass.old.seat.me.0.number) 0 ∷ []), [])) }
 {
     let slot = 2 + 2 * pass.number();
-    let answer = match chain.move_held(pass, slot, None) {
-        Some(parcel) => parcel.into_answer(),
-        None => unreachable!(),
-    };
+    let answer = chain.move_slot(pass, slot, None).unwrap().into_answer();
     chain.rest(pass);
     answer
 }
@@ -65,28 +62,21 @@ pub fn run_posted<V: Room, J: Job<V>>(
     runs: &OwnRuns<Parcel<V, J>>,
 ) -> (Turn, Kept<V>)
     requires own { pass.old.seat.table_id ≡ chain.now.table.shared.table_id }
-    requires taken { MayRun V.rooms J.means J.is_ready chain.now.table.shared.table_id.slots runs.now.log.items turn link kept pass.old.seat.me }
+    requires taken { MayRun V.rooms J.means J.is_ready chain.now.table.shared.table_id.slots runs.now.count runs.now.log.items turn link kept pass.old.seat.me }
     requires room { 1 ≤ V.rooms kept.value }
     requires count { kept.ran + 1 < 2 ^ 64 }
     ensures own { (pass.new.seat.table_id ≡ pass.old.seat.table_id) × (pass.new.seat.id ≡ pass.old.seat.id) }
-    ensures ran { RanNext V.rooms J.means chain.now.table.shared.table_id.slots runs.now.log.items turn link kept pass.old.seat.me pass.new.seat.me result.0 result.1 }
+    ensures ran { RanNext V.rooms J.means chain.now.table.shared.table_id.slots runs.now.count runs.now.log.items turn link kept pass.old.seat.me pass.new.seat.me result.0 result.1 }
 {
     let job_slot = 1 + 2 * turn.node();
-    pass.turn_held();
-    let job = match chain.move_held(pass, job_slot, None) {
-        Some(parcel) => parcel.into_job(),
-        None => unreachable!(),
-    };
-    pass.turn_held();
+    let posted = chain.move_slot(pass, job_slot, None);
+    let job = posted.unwrap().into_job();
     let (answer, value) = run_once(kept, job);
-    let _empty = chain.move_held(pass, 0, Some(value));
-    pass.turn_held();
-    let _old = chain.move_held(pass, job_slot + 1, Some(answer));
+    let _empty = chain.move_slot(pass, 0, Some(value));
+    let _old = chain.move_slot(pass, job_slot + 1, Some(answer));
     let turn = chain.step_over(pass, turn, link, runs);
-    let kept = match chain.move_held(pass, 0, None) {
-        Some(parcel) => parcel.into_kept(),
-        None => unreachable!(),
-    };
+    let left = chain.move_slot(pass, 0, None);
+    let kept = left.unwrap().into_kept();
     (turn, kept)
 }
 

@@ -1,5 +1,5 @@
 //! A job runs on a kept value.
-ghost use Rattle.std.specs.Prelude.{◌≡◌, ℕ, ◌+◌, ◌^◌, ◌<◌, ◌≤◌, [], ◌∷◌, ◌++◌, length};
+ghost use Rattle.std.specs.Prelude.{◌≡◌, ℕ, ◌+◌, ◌^◌, ◌<◌, ◌≤◌, [], ◌∷◌, ◌++◌};
 ghost use Rattle.combine_job.specs.Parcels.{Related};
 ghost use Rattle.combine_job.specs.declared.parcel.Parcel.TheVariants.{Value, Posted, Answered};
 
@@ -24,7 +24,7 @@ pub fn run_kept<V: Room, J: Job<V>>(kept: &mut Kept<V>, job: J) -> JobAnswer<J::
     JobAnswer { at, result }
 }
 
-/// Runs the job once, and lists it with its answer among those that the owner has run for itself.
+/// Runs the job once, and lists it with its answer among those that the owner has run for itself, and that it pays for.
 pub fn run_listed<V: Room, J: Job<V>>(
     kept: &mut Kept<V>,
     runs: &mut OwnRuns<Parcel<V, J>>,
@@ -32,12 +32,13 @@ pub fn run_listed<V: Room, J: Job<V>>(
 ) -> JobAnswer<J::Out, J::Fault>
     requires room { 1 ≤ V.rooms kept.old.value }
     requires count { kept.old.ran + 1 < 2 ^ 64 }
-    requires few { length runs.old.log.items + 1 < 2 ^ 64 }
+    requires few { runs.old.count + 1 < 2 ^ 64 }
     requires ready { J.is_ready job }
     ensures position { result.at ≡ kept.old.ran }
     ensures counted { kept.new.ran ≡ kept.old.ran + 1 }
     ensures related { Related V.rooms J.means (Value kept.old) (Posted job) (Answered result) (Value kept.new) }
     ensures listed { runs.new.log.items ≡ runs.old.log.items ++ (Posted job, Answered result) ∷ [] }
+    ensures due { runs.new.count ≡ runs.old.count + 1 }
 {
     let posted = Parcel::<V, J>::Posted(job);
     let before = Snapshot::of(&posted);

@@ -1,6 +1,7 @@
 -- A pass that takes the lock for one job.
-use Rattle.std.proofs.Common.{◌≡◌, ℕ, ◌≤◌, Result, Option, List, [], ◌∷◌, ◌++◌, length, false, ap, ◌∙◌, subst, ⊎_elim, arith, cond}
+use Rattle.std.proofs.Common.{◌≡◌, ℕ, ◌≤◌, Result, Option, None, List, [], ◌∷◌, ◌++◌, length, false, ap, ◌∙◌, subst, ⊎_elim, arith, cond}
 use Rattle.std.proofs.lemmas.Bool.{le-ltb}
+use Rattle.atomic_table.specs.Table.{rest}
 use Rattle.waiter_chain.specs.Steps.{SeatState}
 use Rattle.waiter_chain.specs.Calls.{readied_state}
 use Rattle.waiter_chain.specs.declared.view.Opening.{Opening}
@@ -15,7 +16,7 @@ use Rattle.dist_mutex.specs.Owners.{ReleasedAs, Stands, Owning, LockedBy, WonLoc
 module _ {V J O X : Type 0} (rooms : V → ℕ) (means : V → J → Result O X → V → Type 0) (o : Opening (Parcel V J O X)) where
   -- what a lock leaves of the view, and what it tells
   abbrev pub Found : ℕ → SeatState (Parcel V J O X) → SeatState (Parcel V J O X) → Turn → Kept V → Type 0
-  Found slots m n t kept = Stands rooms means o m.0.own m.0.quota kept × Owning rooms means slots n [] t kept
+  Found slots m n t kept = Stands rooms means o m.0.own m.0.quota kept × Owning rooms means slots n 0 [] t kept
       × (n.0.number ≡ m.0.number) × (n.0.spare ≡ m.0.spare) × (n.0.past ≡ m.0.past) × (n.0.quota ≡ m.0.quota) × (n.0.own ≡ m.0.own)
 
   of-locked : (slots : ℕ) (m n : SeatState (Parcel V J O X)) (e : Entry) (t : Turn) (kept : Kept V) → LockedBy rooms means o slots m n e t kept → Found slots m n t kept
@@ -27,18 +28,25 @@ module _ {V J O X : Type 0} (rooms : V → ℕ) (means : V → J → Result O X 
       (λ l. of-locked slots (readied_state false m) n _ t kept l)
       (λ w. of-locked slots (polled_state w.1 (behind_state w.0 m)) n _ t kept w.3)
 
+  -- who has just won the lock has slot 0 alone in hand
+  pub won_hand : (slots : ℕ) (m n : SeatState (Parcel V J O X)) (t : Turn) (kept : Kept V) → WonLock rooms means o slots m n t kept → n.1 ≡ (0, None) ∷ []
+  won_hand slots m n t kept = ⊎_elim (λ l. ap (λ (z : SeatState (Parcel V J O X)). z.1) l.0) (λ w. ap (λ (z : SeatState (Parcel V J O X)). z.1) w.3.0)
+
   -- the pass's own answers lie below the count
   pub own_below : (own : List (Parcel V J O X × Parcel V J O X)) (q : ℕ) (kept : Kept V) → Stands rooms means o own q kept → (p : ℕ) → kept.ran ≤ p → places p own ≡ 0
   own_below own q kept s p far = omega (arith, s.mine (λ x. place p x.1), s.once p, ap {B = ℕ} (λ b. cond b 1 0) (le-ltb p kept.ran far))
 
 module _ {V J O X : Type 0} where
-  pub ran_one : (most : ℕ) (m l n : SeatState (Parcel V J O X)) (ran : List (Parcel V J O X × Parcel V J O X)) (job answer : Parcel V J O X) → ran ≡ (job, answer) ∷ [] → 1 ≤ m.0.quota
-      → (l.0.number ≡ m.0.number) × (l.0.spare ≡ m.0.spare) × (l.0.past ≡ m.0.past) × (l.0.quota ≡ m.0.quota) × (l.0.own ≡ m.0.own) → Spent most ran l n → RanOne m n job answer
-  ran_one most m l n ran job answer is enough a s =
-      (s.0, s.1 ∙ a.0, s.2 ∙ a.1, s.3 ∙ a.2, omega (arith, s.4, a.3, ap length is, enough), s.5 ∙ (λ i. a.4 i ++ is i))
+  pub ran_one : (most due : ℕ) (m l n : SeatState (Parcel V J O X)) (ran : List (Parcel V J O X × Parcel V J O X)) (job answer : Parcel V J O X) → ran ≡ (job, answer) ∷ [] → due ≡ 1 → 1 ≤ m.0.quota
+      → (l.0.number ≡ m.0.number) × (l.0.spare ≡ m.0.spare) × (l.0.past ≡ m.0.past) × (l.0.quota ≡ m.0.quota) × (l.0.own ≡ m.0.own) → Spent most due ran l n → RanOne m n job answer
+  ran_one most due m l n ran job answer is one enough a s =
+      (s.0, s.1 ∙ a.0, s.2 ∙ a.1, s.3 ∙ a.2, omega (arith, s.4, a.3, one, enough), s.5 ∙ (λ i. a.4 i ++ is i))
 
 module _ {P : Type 0} where
   -- an unlock of the same pass, after the same jobs
-  pub released_at : (slots : ℕ) (ran made : List (P × P)) (t u : Turn) (m l : SeatState P) (hand : Option P) (n : SeatState P) (x : Next) → ran ≡ made → t ≡ u → m ≡ l → ReleasedAs slots ran t (m.0, (0, hand) ∷ []) n x → ReleasedAs slots made u (l.0, (0, hand) ∷ []) n x
-  released_at slots ran made t u m l hand n x a b c h =
-      subst (λ (z : SeatState P). ReleasedAs slots made u (z.0, (0, hand) ∷ []) n x) c (subst (λ (z : Turn). ReleasedAs slots made z (m.0, (0, hand) ∷ []) n x) b (subst (λ (z : List (P × P)). ReleasedAs slots z t (m.0, (0, hand) ∷ []) n x) a h))
+  pub released_at : (slots due : ℕ) (ran made : List (P × P)) (t u : Turn) (m l : SeatState P) (hand was : Option P) (n : SeatState P) (x : Next) → due ≡ 1 → ran ≡ made → t ≡ u → m ≡ l → l.1 ≡ (0, was) ∷ []
+      → ReleasedAs slots due ran t (m.0, (0, hand) ∷ rest m.1) n x → ReleasedAs slots 1 made u (l.0, (0, hand) ∷ []) n x
+  released_at slots due ran made t u m l hand was n x one a b c alone h =
+      subst (λ (z : ℕ × List (P × P)). ReleasedAs slots z.0 z.1 u (l.0, (0, hand) ∷ []) n x) (λ i. (one i, a i))
+      (subst (λ (z : Turn). ReleasedAs slots due ran z (l.0, (0, hand) ∷ []) n x) b
+      (subst (λ (z : SeatState P). ReleasedAs slots due ran t z n x) (λ i. ((c i).0, (0, hand) ∷ (ap (λ (z : SeatState P). rest z.1) c ∙ ap (λ (y : List (ℕ × Option P)). rest y) alone) i)) h))

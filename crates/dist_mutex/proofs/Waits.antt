@@ -1,7 +1,9 @@
 -- A pass that polls its own status again and again.
-use Rattle.std.proofs.Common.{◌≡◌, ℕ, zero, suc, ◌+◌, ◌*◌, List, [], ◌∷◌, ◌++◌, replicate, refl, ap, ◌∙◌, append_assoc}
+use Rattle.std.proofs.Common.{◌≡◌, ℕ, zero, suc, ◌+◌, ◌*◌, List, [], ◌∷◌, ◌++◌, replicate, None, refl, sym, ap, ◌∙◌, append_assoc}
 use Rattle.waiter_chain.specs.Steps.{SeatState, entry, with_steps, stays}
+use Rattle.waiter_chain.specs.Calls.{IsBehind}
 use Rattle.waiter_chain.specs.declared.view.Entry.{Entry}
+use Rattle.waiter_chain.specs.declared.view.Stage.TheVariants.{Behind}
 use Rattle.waiter_chain.specs.declared.view.Event.TheVariants.{LoadStatus}
 use Rattle.dist_mutex.specs.Owners.{polled_state}
 
@@ -22,3 +24,7 @@ module _ {P : Type 0} where
       let e : Entry = entry m.0 LoadStatus (1 + 2 * m.0.number) 1 in
       ap (λ (x : ℕ). stays (polled_state k m) (entry m.0 LoadStatus (1 + 2 * m.0.number) x)) one
       ∙ ap (λ (xs : List Entry). (with_steps m.0 m.0.stage xs, m.1)) (append_assoc m.0.steps (replicate k e) (e ∷ []) ∙ ap (λ xs. m.0.steps ++ xs) (replicate-snoc k e))
+
+  -- so it waits still
+  pub polled_behind : (b c k : ℕ) (m n : SeatState P) → c ≡ b → IsBehind b m → n ≡ polled_state k m → (n.0.stage ≡ Behind c None) × (n.1 ≡ [])
+  polled_behind b c k m n same h e = (ap (λ (z : SeatState P). z.0.stage) e ∙ h.0 ∙ ap (λ (x : ℕ). Behind x None) (sym same), ap (λ (z : SeatState P). z.1) e ∙ h.1)

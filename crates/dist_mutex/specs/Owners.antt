@@ -1,7 +1,8 @@
 -- What an owner of the lock knows and does.
 use Rattle.std.specs.Prelude.{◌≡◌, ◌≢◌, ◌⊎◌, ℕ, ◌+◌, ◌-◌, ◌*◌, ◌≤◌, ◌<◌, Result, Option, Some, None, List, [], ◌∷◌, ◌++◌, length, replicate, false}
 use Rattle.view_sums.specs.Sums.{total}
-use Rattle.waiter_chain.specs.Goods.{Runs}
+use Rattle.waiter_chain.specs.Goods.{Runs, Counts}
+use Rattle.waiter_chain.specs.Chains.{owed}
 use Rattle.waiter_chain.specs.Steps.{SeatState, ownership, entry, moved, ended, with_steps}
 use Rattle.waiter_chain.specs.Calls.{IsIdle, OwnsBy, FollowsAs, readied_state}
 use Rattle.waiter_chain.specs.declared.view.Opening.{Opening}
@@ -32,13 +33,13 @@ module _ {P : Type 0} where
   polled_state k m = (with_steps m.0 m.0.stage (m.0.steps ++ replicate k (entry m.0 LoadStatus (1 + 2 * m.0.number) 1)), m.1)
 
   -- the ownership has ended: the lock was freed by one exchange, or the next node was made the owner by one store
-  abbrev pub ReleasedAs : ℕ → List (P × P) → Turn → SeatState P → SeatState P → Next → Type 0
-  ReleasedAs slots ran t m n next.Free = FollowsAs slots ran t m n follow.Free
-  ReleasedAs slots ran t m n (next.Plain x) = (l : SeatState P) × (u : Turn) × FollowsAs slots ran t m l (follow.Waits u x) × (n ≡ (ended l.0 ran (entry l.0 Grant (1 + 2 * (u.first - 2)) (u.end + 4)), []))
+  abbrev pub ReleasedAs : ℕ → ℕ → List (P × P) → Turn → SeatState P → SeatState P → Next → Type 0
+  ReleasedAs slots due ran t m n next.Free = FollowsAs slots due ran t m n follow.Free
+  ReleasedAs slots due ran t m n (next.Plain x) = (l : SeatState P) × (u : Turn) × FollowsAs slots due ran t m l (follow.Waits u x) × (n ≡ (ended l.0 due ran (entry l.0 Grant (1 + 2 * (u.first - 2)) (u.end + 4)), []))
 
-  -- the pass is idle again: its quota has fallen by the number of these jobs, these and their answers stand at the end of its list, and it made at most so many steps
-  abbrev pub Spent : ℕ → List (P × P) → SeatState P → SeatState P → Type 0
-  Spent most ran m n = IsIdle n × (n.0.number ≡ m.0.number) × (n.0.spare ≡ m.0.spare) × (n.0.past ≡ m.0.past) × (n.0.quota ≡ m.0.quota - length ran) × (n.0.own ≡ m.0.own ++ ran)
+  -- the pass is idle again: its quota has fallen by the number of jobs that were due, these jobs and their answers stand at the end of its list, and it made at most so many steps
+  abbrev pub Spent : ℕ → ℕ → List (P × P) → SeatState P → SeatState P → Type 0
+  Spent most due ran m n = IsIdle n × (n.0.number ≡ m.0.number) × (n.0.spare ≡ m.0.spare) × (n.0.past ≡ m.0.past) × (n.0.quota ≡ m.0.quota - due) × (n.0.own ≡ m.0.own ++ ran)
       × ((made : List Entry) × (n.0.steps ≡ m.0.steps ++ made) × (length made ≤ most))
 
 module _ {V J O X : Type 0} where
@@ -60,18 +61,19 @@ module _ {V J O X : Type 0} (rooms : V → ℕ) (means : V → J → Result O X 
     pub count : kept.ran + quota ≤ o.quota
     pub small : o.quota < 18446744073709551616
 
-  -- the pass owns the lock by this turn, and the value in its hand is what these jobs of its own made of the value that it found
-  pub record Owning (slots : ℕ) (m : SeatState (Parcel V J O X)) (ran : List (Parcel V J O X × Parcel V J O X)) (t : Turn) (kept : Kept V) : Type 0 where
+  -- the pass owns the lock by this turn, the value in its hand is what these jobs of its own made of the value that it found, and so many of them are due, to be paid for as the ownership ends; a job that it had posted is among them, and was paid for
+  pub record Owning (slots : ℕ) (m : SeatState (Parcel V J O X)) (due : ℕ) (ran : List (Parcel V J O X × Parcel V J O X)) (t : Turn) (kept : Kept V) : Type 0 where
     pub notes : Ownership (Parcel V J O X)
     pub owns : OwnsBy slots t None m notes
     pub runs : Runs (Related rooms means) notes.value ran (Value kept)
-    pub room : m.0.quota ≤ rooms kept.value + length ran
-    pub count : kept.ran + m.0.quota < 18446744073709551616 + length ran
+    pub paid : Counts (owed notes.mine) ran due
+    pub room : m.0.quota ≤ rooms kept.value + due
+    pub count : kept.ran + m.0.quota < 18446744073709551616 + due
     pub small : m.0.quota < 18446744073709551616
 
   -- by the step e the pass has become the owner, and this is the value that it found
   abbrev pub LockedBy : Opening (Parcel V J O X) → ℕ → SeatState (Parcel V J O X) → SeatState (Parcel V J O X) → Entry → Turn → Kept V → Type 0
-  LockedBy o slots m n e t kept = (n ≡ (moved m.0 (Owns (ownership t.first t.end t.mark false (Value kept))) e, (0, None) ∷ [])) × Stands o m.0.own m.0.quota kept × Owning slots n [] t kept
+  LockedBy o slots m n e t kept = (n ≡ (moved m.0 (Owns (ownership t.first t.end t.mark false (Value kept))) e, (0, None) ∷ [])) × Stands o m.0.own m.0.quota kept × Owning slots n 0 [] t kept
 
   -- the pass entered and found the lock free; or it waited behind another, polled its own status until that was 4 or more, and was then the owner
   abbrev pub WonLock : Opening (Parcel V J O X) → ℕ → SeatState (Parcel V J O X) → SeatState (Parcel V J O X) → Turn → Kept V → Type 0
@@ -81,7 +83,7 @@ module _ {V J O X : Type 0} (rooms : V → ℕ) (means : V → J → Result O X 
   -- all steps of a pass that took the lock, ran one job and gave the lock up: those of the lock, by which it found the first value, and those of the unlock, which put back what the job made of it
   abbrev pub Combined : Opening (Parcel V J O X) → ℕ → SeatState (Parcel V J O X) → SeatState (Parcel V J O X) → Parcel V J O X → Parcel V J O X → Kept V → Kept V → Next → Type 0
   Combined o slots m n job answer found left next = (l : SeatState (Parcel V J O X)) × (t : Turn) × WonLock o slots m l t found × Related rooms means (Value found) job answer (Value left)
-      × ReleasedAs slots ((job, answer) ∷ []) t (l.0, (0, Some (Value left)) ∷ []) n next
+      × ReleasedAs slots 1 ((job, answer) ∷ []) t (l.0, (0, Some (Value left)) ∷ []) n next
 
   -- the lock ends with a value that the whole history made, and these jobs are exactly those of the history, each with its answer
   abbrev pub Ends : Opening (Parcel V J O X) → List (Parcel V J O X × Parcel V J O X) → Option (Kept V) → Type 0

@@ -1,5 +1,5 @@
 -- What a clause reads of a lock and of a pass.
-use Rattle.std.specs.Prelude.{◌≡◌, ℕ, List}
+use Rattle.std.specs.Prelude.{◌≡◌, ℕ, List, []}
 use Rattle.waiter_chain.specs.Steps.{SeatState}
 use Rattle.waiter_chain.specs.declared.view.View.{View}
 use Rattle.waiter_chain.specs.declared.view.Opening.{Opening}
@@ -38,6 +38,14 @@ module _ {V J O X : Type 0} {r : room.Ghosts V} {j : job.Ghosts J V O X} where
   -- the jobs that it has run for itself in its present ownership, each with its answer
   abbrev pub runs_of : DistPass V J O X r j → List (Parcel V J O X × Parcel V J O X)
   runs_of p = p.runs.log.items
+
+  -- how many of these it pays for as its ownership ends: those that it had not posted
+  abbrev pub due_of : DistPass V J O X r j → ℕ
+  due_of p = p.runs.count
+
+  -- it has run no job of its own in its present ownership
+  abbrev pub HasNoRuns : DistPass V J O X r j → Type 0
+  HasNoRuns p = (runs_of p ≡ []) × (due_of p ≡ 0)
 
   abbrev pub IsDistPassOf : DistMutex V J O X → DistPass V J O X r j → Type 0
   IsDistPassOf m p = p.pass.seat.table_id ≡ m.chain.table.shared.table_id

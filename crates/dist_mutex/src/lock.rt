@@ -1,5 +1,6 @@
 //! How a distributed lock is taken, worked under and given up.
-ghost use Rattle.std.specs.Prelude.{◌≡◌, ◌≢◌, ◌⊎◌, ◌+◌, ◌-◌, ◌*◌, ◌<◌, ◌≤◌, ℕ, [], ◌∷◌, ◌++◌, length, MatchResult, Some, None};
+ghost use Rattle.std.specs.Prelude.{◌≡◌, ◌≢◌, ◌⊎◌, ◌+◌, ◌-◌, ◌*◌, ◌<◌, ◌≤◌, ℕ, [], ◌∷◌, ◌++◌, MatchResult, Some, None};
+ghost use Rattle.atomic_table.specs.Table.{rest};
 ghost use Rattle.waiter_chain.specs.Steps.{SeatState, entry};
 ghost use Rattle.waiter_chain.specs.Calls.{IsIdle, IsBehind, HasTurn, MayEnd, Won, WasBusy};
 ghost use Rattle.waiter_chain.specs.declared.view.Event.TheVariants as event;
@@ -9,7 +10,7 @@ ghost use Rattle.combine_job.specs.declared.parcel.Parcel.TheVariants.{Value, Po
 ghost use Rattle.combine_job.specs.Parcels.{Related, Ruled, places};
 ghost use Rattle.dist_mutex.specs.Owners.{Owning, LockedBy, WonLock, polled_state, ReleasedAs, Spent, RanOne, Combined};
 ghost use Rattle.dist_mutex.specs.declared.owner.Next.{Next};
-ghost use Rattle.dist_mutex.specs.Passes.{opening_of, slots_of, dist_state, dist_view, runs_of, IsDistPassOf, IsSamePass, IsAtRest};
+ghost use Rattle.dist_mutex.specs.Passes.{opening_of, slots_of, dist_state, dist_view, runs_of, due_of, HasNoRuns, IsDistPassOf, IsSamePass, IsAtRest};
 
 use crate::mutex::DistMutex;
 use crate::owner::{Next, Owner, Released};
@@ -29,14 +30,12 @@ impl<V: Room, J: Job<V>> DistMutex<V, J> {
         requires runs { runs_of pass.old ≡ [] }
         requires won { (m : _) × (e : Entry) × Won (Ruled V.rooms J.means J.is_ready (opening_of self.now)) (slots_of self.now) turn m e (dist_state pass.old) }
         ensures own { IsSamePass pass.old pass.new }
-        ensures runs { runs_of pass.new ≡ [] }
+        ensures runs { HasNoRuns pass.new }
         ensures turn { result.turn ≡ turn }
         ensures locked { (m : _) (e : Entry) → Won (Ruled V.rooms J.means J.is_ready (opening_of self.now)) (slots_of self.now) turn m e (dist_state pass.old) → LockedBy V.rooms J.means (opening_of self.now) (slots_of self.now) m (dist_state pass.new) e result.turn result.kept }
     {
-        let kept = match self.chain.move_slot(&mut pass.pass, 0, None) {
-            Some(parcel) => parcel.into_kept(),
-            None => unreachable!(),
-        };
+        let parcel = self.chain.move_slot(&mut pass.pass, 0, None);
+        let kept = parcel.unwrap().into_kept();
         Owner { turn, kept }
     }
 
@@ -45,7 +44,7 @@ impl<V: Room, J: Job<V>> DistMutex<V, J> {
         requires own { IsDistPassOf self.now pass.old }
         requires idle { IsAtRest pass.old }
         ensures own { IsSamePass pass.old pass.new }
-        ensures runs { runs_of pass.new ≡ [] }
+        ensures runs { HasNoRuns pass.new }
         ensures answer { MatchResult result (λ o. LockedBy V.rooms J.means (opening_of self.now) (slots_of self.now) (dist_state pass.old) (dist_state pass.new) (entry (dist_view pass.old) event.TryIn 0 0) o.turn o.kept) (WasBusy (dist_state pass.old) (dist_state pass.new)) }
     {
         let turn = self.chain.try_in(&mut pass.pass)?;
@@ -57,7 +56,7 @@ impl<V: Room, J: Job<V>> DistMutex<V, J> {
         requires own { IsDistPassOf self.now pass.old }
         requires idle { IsAtRest pass.old }
         ensures own { IsSamePass pass.old pass.new }
-        ensures runs { runs_of pass.new ≡ [] }
+        ensures runs { HasNoRuns pass.new }
         ensures owner { WonLock V.rooms J.means (opening_of self.now) (slots_of self.now) (dist_state pass.old) (dist_state pass.new) result.turn result.kept }
     {
         match self.chain.enter(&mut pass.pass, Kind::Plain) {
@@ -72,7 +71,7 @@ impl<V: Room, J: Job<V>> DistMutex<V, J> {
         requires runs { runs_of pass.old ≡ [] }
         requires behind { IsBehind pass.old.pass.behind (dist_state pass.old) }
         ensures own { IsSamePass pass.old pass.new }
-        ensures runs { runs_of pass.new ≡ [] }
+        ensures runs { HasNoRuns pass.new }
         ensures owner { (k : ℕ) × LockedBy V.rooms J.means (opening_of self.now) (slots_of self.now) (polled_state k (dist_state pass.old)) (dist_state pass.new) (entry (dist_view pass.old) event.LoadStatus (1 + 2 * (dist_view pass.old).number) (result.turn.end + 4)) result.turn result.kept }
     {
         for _ in rt.forever() {
@@ -85,7 +84,7 @@ impl<V: Room, J: Job<V>> DistMutex<V, J> {
         unreachable!()
     }
 
-    /// Runs a job on the value in the owner's hand, at the next position. The quota falls by 1.
+    /// Runs a job that was not posted on the value in the owner's hand, at the next position. The quota falls by 1.
     pub fn run_owned(
         &self,
         pass: &mut DistPass<V, J>,
@@ -93,15 +92,16 @@ impl<V: Room, J: Job<V>> DistMutex<V, J> {
         job: J,
     ) -> JobAnswer<J::Out, J::Fault>
         requires own { IsDistPassOf self.now pass.old }
-        requires owner { Owning V.rooms J.means (slots_of self.now) (dist_state pass.old) (runs_of pass.old) owner.old.turn owner.old.kept }
-        requires quota { 1 ≤ (dist_view pass.old).quota - length (runs_of pass.old) }
+        requires owner { Owning V.rooms J.means (slots_of self.now) (dist_state pass.old) (due_of pass.old) (runs_of pass.old) owner.old.turn owner.old.kept }
+        requires quota { 1 ≤ (dist_view pass.old).quota - due_of pass.old }
         requires ready { J.is_ready job }
         ensures own { IsSamePass pass.old pass.new }
         ensures same { (dist_state pass.new ≡ dist_state pass.old) × (owner.new.turn ≡ owner.old.turn) }
         ensures listed { runs_of pass.new ≡ runs_of pass.old ++ (Posted job, Answered result) ∷ [] }
+        ensures due { due_of pass.new ≡ due_of pass.old + 1 }
         ensures position { (result.at ≡ owner.old.kept.ran) × (owner.new.kept.ran ≡ owner.old.kept.ran + 1) }
         ensures related { Related V.rooms J.means (Value owner.old.kept) (Posted job) (Answered result) (Value owner.new.kept) }
-        ensures owner { Owning V.rooms J.means (slots_of self.now) (dist_state pass.new) (runs_of pass.new) owner.new.turn owner.new.kept }
+        ensures owner { Owning V.rooms J.means (slots_of self.now) (dist_state pass.new) (due_of pass.new) (runs_of pass.new) owner.new.turn owner.new.kept }
     {
         run_listed(&mut owner.kept, &mut pass.runs, job)
     }
@@ -110,10 +110,10 @@ impl<V: Room, J: Job<V>> DistMutex<V, J> {
     fn hand_over(&self, pass: &mut DistPass<V, J>, turn: Turn) -> Next
         requires own { IsDistPassOf self.now pass.old }
         requires turn { HasTurn (slots_of self.now) turn (dist_state pass.old) }
-        requires ends { MayEnd (Related V.rooms J.means) (runs_of pass.old) (dist_state pass.old) }
+        requires ends { MayEnd (Related V.rooms J.means) (due_of pass.old) (runs_of pass.old) (dist_state pass.old) }
         ensures own { IsSamePass pass.old pass.new }
-        ensures runs { runs_of pass.new ≡ [] }
-        ensures released { ReleasedAs (slots_of self.now) (runs_of pass.old) turn (dist_state pass.old) (dist_state pass.new) result }
+        ensures runs { HasNoRuns pass.new }
+        ensures released { ReleasedAs (slots_of self.now) (due_of pass.old) (runs_of pass.old) turn (dist_state pass.old) (dist_state pass.new) result }
     {
         let next = match self.chain.next(&mut pass.pass, turn, &pass.runs) {
             Follow::Free => Next::Free,
@@ -130,12 +130,12 @@ impl<V: Room, J: Job<V>> DistMutex<V, J> {
     /// that the owner ran stand in the pass's own list from then on.
     pub fn unlock(&self, pass: &mut DistPass<V, J>, owner: Owner<V>) -> Released
         requires own { IsDistPassOf self.now pass.old }
-        requires owner { Owning V.rooms J.means (slots_of self.now) (dist_state pass.old) (runs_of pass.old) owner.turn owner.kept }
+        requires owner { Owning V.rooms J.means (slots_of self.now) (dist_state pass.old) (due_of pass.old) (runs_of pass.old) owner.turn owner.kept }
         ensures own { IsSamePass pass.old pass.new }
         ensures combined { result.combined ≡ 0 }
-        ensures runs { runs_of pass.new ≡ [] }
-        ensures spent { Spent 3 (runs_of pass.old) (dist_state pass.old) (dist_state pass.new) }
-        ensures released { ReleasedAs (slots_of self.now) (runs_of pass.old) owner.turn (dist_view pass.old, (0, Some (Value owner.kept)) ∷ []) (dist_state pass.new) result.next }
+        ensures runs { HasNoRuns pass.new }
+        ensures spent { Spent 3 (due_of pass.old) (runs_of pass.old) (dist_state pass.old) (dist_state pass.new) }
+        ensures released { ReleasedAs (slots_of self.now) (due_of pass.old) (runs_of pass.old) owner.turn (dist_view pass.old, (0, Some (Value owner.kept)) ∷ rest (dist_state pass.old).1) (dist_state pass.new) result.next }
     {
         let Owner { turn, kept } = owner;
         let value = Some(Parcel::Value(kept));
@@ -157,7 +157,7 @@ impl<V: Room, J: Job<V>> DistMutex<V, J> {
         requires quota { 1 ≤ (dist_view pass.old).quota }
         requires ready { J.is_ready job }
         ensures own { IsSamePass pass.old pass.new }
-        ensures runs { runs_of pass.new ≡ [] }
+        ensures runs { HasNoRuns pass.new }
         ensures answered { RanOne (dist_state pass.old) (dist_state pass.new) (Posted job) (Answered result) }
         ensures related { (v : Kept V) × (w : Kept V) × Related V.rooms J.means (Value v) (Posted job) (Answered result) (Value w) }
         ensures steps { (v : Kept V) × (w : Kept V) × (x : Next) × Combined V.rooms J.means (opening_of self.now) (slots_of self.now) (dist_state pass.old) (dist_state pass.new) (Posted job) (Answered result) v w x }

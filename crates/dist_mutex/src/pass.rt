@@ -1,5 +1,5 @@
 //! The token of one node of a distributed lock.
-ghost use Rattle.std.specs.Prelude.{◌≡◌, ◌-◌, ◌≤◌, length};
+ghost use Rattle.std.specs.Prelude.{◌≡◌, ◌-◌, ◌≤◌};
 
 use combine_job::job::{Job, Room};
 use combine_job::parcel::Parcel;
@@ -12,7 +12,7 @@ use waiter_chain::runs::OwnRuns;
 pub struct DistPass<V: Room, J: Job<V>> {
     pub(crate) pass: ChainPass<Parcel<V, J>>,
     pub(crate) runs: OwnRuns<Parcel<V, J>>,
-    ghost few: { length runs.log.items ≤ pass.quota },
+    ghost few: { runs.count ≤ pass.quota },
 }
 
 impl<V: Room, J: Job<V>> DistPass<V, J> {
@@ -30,9 +30,10 @@ impl<V: Room, J: Job<V>> DistPass<V, J> {
         self.pass.spare()
     }
 
-    /// How many jobs it may still run: the chain's quota, less the jobs that it has run in its present ownership.
+    /// How many jobs it may still run: the chain's quota, less the jobs that it has run in its present ownership
+    /// without having posted them.
     pub fn quota(&self) -> u64
-        ensures { result ≡ self.now.pass.seat.me.0.quota - length self.now.runs.log.items }
+        ensures { result ≡ self.now.pass.seat.me.0.quota - self.now.runs.count }
     {
         self.pass.quota() - self.runs.count()
     }

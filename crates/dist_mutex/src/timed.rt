@@ -1,7 +1,7 @@
 //! How a distributed lock is tried for until a deadline.
 ghost use Rattle.std.specs.Prelude.{◌≡◌, ◌⊎◌, ◌+◌, ◌≤◌, ◌<◌, [], ◌∷◌, length, None, IfOk, IfErr, OnOk, OnErr};
 ghost use Rattle.timed_wait.specs.Waiting.{AsksBelow};
-ghost use Rattle.dist_mutex.specs.Passes.{opening_of, slots_of, dist_state, dist_view, runs_of, IsDistPassOf, IsSamePass, IsAtRest};
+ghost use Rattle.dist_mutex.specs.Passes.{opening_of, slots_of, dist_state, dist_view, HasNoRuns, IsDistPassOf, IsSamePass, IsAtRest};
 ghost use Rattle.dist_mutex.specs.Tries.{last_fault, Refused, LockedAtLast};
 
 use crate::mutex::DistMutex;
@@ -44,7 +44,7 @@ impl<'a, V: Room, J: Job<V>> Attempt for Trying<'a, V, J> {
         × (b.mutex ≡ a.mutex)
         × (b.pass.now.pass.seat.table_id ≡ a.pass.now.pass.seat.table_id)
         × (b.pass.now.pass.seat.id ≡ a.pass.now.pass.seat.id)
-        × (runs_of b.pass.now ≡ [])
+        × HasNoRuns b.pass.now
         × LockedAtLast V.rooms J.means (opening_of a.mutex.now)
         (slots_of a.mutex.now)
         (dist_state a.pass.now) (dist_state b.pass.now) got.turn got.kept };
@@ -72,7 +72,7 @@ impl<V: Room, J: Job<V>> DistMutex<V, J> {
         requires own { IsDistPassOf self.now pass.old }
         requires idle { IsAtRest pass.old }
         ensures own { IsSamePass pass.old pass.new }
-        ensures runs { runs_of pass.new ≡ [] }
+        ensures runs { HasNoRuns pass.new }
 
         // A try found the lock free. Each time the clock was asked, it answered a number below the deadline.
         ensures locked { IfOk result (λ o. LockedAtLast V.rooms J.means (opening_of self.now) (slots_of self.now) (dist_state pass.old) (dist_state pass.new) o.turn o.kept) }

@@ -5,7 +5,7 @@ use mathlib.Core.Logic.{dite}
 use native.Mathlib.Decide.{ℕ_discrete}
 use lib.ListN.{get_elem?}
 use prog.Atomic.{either}
-use Rattle.atomic_table.specs.Table.{State, step, keeps, gives, Allows, stepped}
+use Rattle.atomic_table.specs.Table.{State, step, keeps, gives, rest, Allows, stepped}
 use Rattle.atomic_table.proofs.Lists.{exchanged, set_here, at_map}
 use Rattle.waiter_chain.specs.declared.view.View.{View}
 use Rattle.waiter_chain.specs.declared.view.Next.{Next}
@@ -18,10 +18,15 @@ use Rattle.waiter_chain.specs.declared.view.Stage.{Stage}
 use Rattle.waiter_chain.specs.declared.view.Event.TheVariants.{Free, TakeChain}
 use Rattle.waiter_chain.specs.Goods.{Goods, goods, put, Pays, Runs, Ends}
 use Rattle.waiter_chain.specs.Chains.{desk, Desk, Seated, Mine, AtRest, front, line_weight, owner_weight, part_of, nobody, turn, Queued, Held, Lawful}
-use Rattle.waiter_chain.specs.Steps.{SeatState, Ranged, HasNone, passed, retook, entry, with_steps, moved, noted, ended, freed, took, looked, counted}
+use Rattle.waiter_chain.specs.Steps.{SeatState, Ranged, passed, retook, entry, with_steps, moved, noted, ended, freed, took, looked, counted}
 use Rattle.view_sums.specs.Sums.{term_le, set_self, map-set, same-refl}
 use Rattle.waiter_chain.proofs.Rules.{awake, has, owns-idle, owns-injective, line_empty, line_some, line_ne, put-none, desk-same, desk-central, waits-other, done-other, once, one_owner, live, low_node, low_number, Goes, restaged-own, unmoved, parts-same}
 use Rattle.waiter_chain.proofs.Polls.{ranged}
+
+module _ {P : Type 0} where
+  -- the owner has no slot of another node, and its own job slot is at home
+  abbrev pub HasNone : Ownership P → Type 0
+  HasNone r = (r.next ≡ None) × (r.mine ≡ Unused)
 
 module _ {P : Type 0} (rule : Goods P → Type 0) (nodes : ℕ) where
   module _ (s : State (Option P) (View P)) (o : Lawful rule nodes s) (id : ℕ) (v : View P) (k : Ownership P) (me : get_elem? s.views id ≡ some v) (mine : v.stage ≡ Owns k) where
@@ -56,14 +61,14 @@ module _ {P : Type 0} (rule : Goods P → Type 0) (nodes : ℕ) where
   weigh_bare g n k bare = omega (arith, ap (λ (y : Option (Next P)). line_weight g (front y [])) bare.0)
 
   -- the goods, after the value was put back
-  pub put-back : (relates : P → P → P → P → Type 0) → Ends rule nodes relates → (s : State (Option P) (View P)) (o : Lawful rule nodes s) (id : ℕ) (v : View P) (k : Ownership P) (ran : List (P × P)) (now : P) (e : Entry)
-      → get_elem? s.views id ≡ some v → v.stage ≡ Owns k → HasNone k → length ran ≤ v.quota → Runs relates k.value ran now
-      → rule (goods now (put o.posted v.number none) o.answered (map part_of (set s.views id (ended v ran e))))
-  put-back relates law s o id v k ran now e me mine bare enough runs =
-      let q : ℕ = v.quota - length ran in let n : ℕ = v.number in let rest = owner_rest s o id v k me mine bare in
-      subst (λ ps. rule (goods now (put o.posted n none) o.answered ps)) (sym (map-set part_of s.views id (ended v ran e)))
+  pub put-back : (relates : P → P → P → P → Type 0) → Ends rule nodes relates → (s : State (Option P) (View P)) (o : Lawful rule nodes s) (id : ℕ) (v : View P) (k : Ownership P) (count : ℕ) (ran : List (P × P)) (now : P) (e : Entry)
+      → get_elem? s.views id ≡ some v → v.stage ≡ Owns k → HasNone k → count ≤ v.quota → count ≡ length ran → Runs relates k.value ran now
+      → rule (goods now (put o.posted v.number none) o.answered (map part_of (set s.views id (ended v count ran e))))
+  put-back relates law s o id v k count ran now e me mine bare enough all runs =
+      let q : ℕ = v.quota - count in let n : ℕ = v.number in let home = owner_rest s o id v k me mine bare in
+      subst (λ ps. rule (goods now (put o.posted n none) o.answered ps)) (sym (map-set part_of s.views id (ended v count ran e)))
       (law (goods o.value o.posted o.answered (map part_of s.views)) id n v.quota q v.own ran now o.goods_rule (low_number rule nodes s o id v me (live-owner s o id v k me mine))
-      (at_map part_of s.views id v me) (subst (λ x. Runs relates x ran now) (held_by s o id v k me mine).4 runs) (subst (λ (y : Maybe P). Pays y ran v.quota q) (sym rest.1.1) (omega arith)) rest.1.2)
+      (at_map part_of s.views id v me) (subst (λ x. Runs relates x ran now) (held_by s o id v k me mine).4 runs) (subst (λ (y : Maybe P). Pays y ran v.quota q) (sym home.1.1) (omega (arith, enough, all))) home.1.2)
 
   -- an owner sees that others came, and changes no word
   pub passes : (s : State (Option P) (View P)) (o : Lawful rule nodes s) (id : ℕ) (m : SeatState P) (k : Ownership P) (i : ℕ) (steps : List Entry) → get_elem? s.views id ≡ some m.0 → m.0.stage ≡ Owns k → get_or s.words 0 0 ≢ k.mark
@@ -141,14 +146,14 @@ module _ {P : Type 0} (rule : Goods P → Type 0) (nodes : ℕ) where
             (refl, apart, ranged nodes slots c k.mark o.newer (sym long ∙ o.long) (λ i y. low_node rule nodes s o i (omega arith)) q.new_line q.low_mark),
       )
 
-  pub frees : (relates : P → P → P → P → Type 0) → Ends rule nodes relates → (slots id : ℕ) (m : SeatState P) (k : Ownership P) (ran : List (P × P)) (now : P) (mark : ℕ) → m.0.stage ≡ Owns k → HasNone k → k.first ≡ k.end → mark ≡ k.mark → m.1 ≡ (0, Some now) ∷ []
-      → length ran ≤ m.0.quota → Runs relates k.value ran now
-      → Allows (Lawful rule nodes) slots id m 0 (λ x. either (eqb x mark) 0 x) (freed ran (step slots 0 mark 0 none) m)
-  frees relates law slots id m k ran now mark mine bare none-left is hand enough runs s o long me _ =
+  pub frees : (relates : P → P → P → P → Type 0) → Ends rule nodes relates → (slots id : ℕ) (m : SeatState P) (k : Ownership P) (count : ℕ) (ran : List (P × P)) (now : P) (mark : ℕ) → m.0.stage ≡ Owns k → HasNone k → k.first ≡ k.end → mark ≡ k.mark → m.1 ≡ (0, Some now) ∷ []
+      → count ≤ m.0.quota → count ≡ length ran → Runs relates k.value ran now
+      → Allows (Lawful rule nodes) slots id m 0 (λ x. either (eqb x mark) 0 x) (freed count ran (step slots 0 mark 0 none) m)
+  frees relates law slots id m k count ran now mark mine bare none-left is hand enough all runs s o long me _ =
       let n : ℕ = m.0.number in let c : ℕ = get_or s.words 0 0 in let q = owner_lines s o id m.0 k me mine bare.0 in
-      exchanged c mark 0 (Goes rule nodes s 0 id m (freed ran (step slots 0 mark 0 none) m))
+      exchanged c mark 0 (Goes rule nodes s 0 id m (freed count ran (step slots 0 mark 0 none) m))
       (λ hit.
-      let w : View P = ended m.0 ran (entry m.0 Free 0 c) in
+      let w : View P = ended m.0 count ran (entry m.0 Free 0 c) in
       let older = line_empty k.first k.end o.older q.old_line q.past_end none-left in
       let newer = line_empty c k.mark o.newer q.new_line q.past_mark (hit ∙ is) in
       let words : List ℕ = set s.words 0 0 in let homes : List (Maybe (Option P)) = set s.homes 0 (some (Some now)) in
@@ -167,8 +172,8 @@ module _ {P : Type 0} (rule : Goods P → Type 0) (nodes : ℕ) where
             (λ j z. absurd (cc)) (λ j u l ne there z. absurd (one_owner rule nodes s o id j m.0 u k l ne me there mine z))
             (λ i _. same i) (subst AtRest (sym (same n)) rested) tt tt (done-other at at' n (λ i _. same i) o.done mates.2 o.finished)
             (get_or-set_same s.words 0 0 0 (omega (arith, o.wide)), refl, refl, set_here s.homes 0 (some (Some now)) (omega (arith, o.long)))
-            (put-back relates law s o id m.0 k ran now (entry m.0 Free 0 c) me mine bare enough runs)),
-        ((λ _. refl), λ ne. absurd (ne hit)),
+            (put-back relates law s o id m.0 k count ran now (entry m.0 Free 0 c) me mine bare enough all runs)),
+        ((λ _. ap (λ (x : List (ℕ × Option P)). (w, rest x)) hand), λ ne. absurd (ne hit)),
       ))
       (λ miss. (
         moved m.0 (Owns (passed k)) (entry m.0 Free 0 c),

@@ -2,7 +2,7 @@
 use Rattle.std.proofs.Common.{◌≡◌, ◌≢◌, ℕ, ◌+◌, ◌-◌, ◌*◌, ◌<◌, ◌≤◌, List, [], ◌∷◌, length, set, get_or, length-set, get_or-set_same, get_or-set_other, Option, Some, None, false, refl, sym, ap, ◌∙◌, subst, arith}
 use mathlib.Core.Option.{some, none, Option as Maybe}
 use lib.ListN.{get_elem?}
-use Rattle.atomic_table.specs.Table.{State, step, gives, Allows, stepped}
+use Rattle.atomic_table.specs.Table.{State, step, gives, rest, Allows, stepped}
 use Rattle.atomic_table.proofs.Lists.{set_here, set_else}
 use Rattle.waiter_chain.specs.declared.view.View.{View}
 use Rattle.waiter_chain.specs.declared.view.Ownership.{Ownership}
@@ -11,10 +11,10 @@ use Rattle.waiter_chain.specs.declared.view.Stage.TheVariants.{Idle, Holding, Cl
 use Rattle.waiter_chain.specs.declared.view.Event.TheVariants.{Grant}
 use Rattle.waiter_chain.specs.Goods.{Goods, put, Runs, Ends}
 use Rattle.waiter_chain.specs.Chains.{Waiter, Line, desk, Desk, Seated, AtRest, Keeps, Noted, Waits, AllWait, weigh, line_weight, owner_weight, granted, named, Lawful}
-use Rattle.waiter_chain.specs.Steps.{SeatState, HasNone, entry, ended, handed}
+use Rattle.waiter_chain.specs.Steps.{SeatState, entry, ended, handed}
 use Rattle.view_sums.specs.Sums.{same-refl}
 use Rattle.waiter_chain.proofs.Rules.{queued-words, put-none, noted-same, desk-same, waits-other, done-other, awake, has, quiet, covers-own, covers_awake, once, low_node, one_owner, restaged}
-use Rattle.waiter_chain.proofs.Frees.{owner_lines, owner_rest, owner_apart, live-owner, weigh_bare, put-back}
+use Rattle.waiter_chain.proofs.Frees.{HasNone, owner_lines, owner_rest, owner_apart, live-owner, weigh_bare, put-back}
 
 -- a line that is not empty, cut behind its head
 pub line_cut : {P : Type 0} (v w : ℕ) (xs : List (Waiter P)) → Line v xs w → v ≢ w → (x : Waiter P) × (ys : List (Waiter P)) × (xs ≡ x ∷ ys) × (v ≡ x.0 + 2) × Line x.1 ys w
@@ -53,10 +53,10 @@ module _ {P : Type 0} (rule : Goods P → Type 0) (nodes : ℕ) where
       by_stage (Owns l) e = absurd (one_owner rule nodes s o id j v u k l ne me at-j mine e)
       by_stage (Done i a) e = absurd (still (ap (awake u.number u.number) e))
 
-  pub grants : (relates : P → P → P → P → Type 0) → Ends rule nodes relates → (slots id : ℕ) (m : SeatState P) (k : Ownership P) (ran : List (P × P)) (now : P) (i new : ℕ) → m.0.stage ≡ Owns k → HasNone k → k.first ≢ k.end → i ≡ 1 + 2 * (k.first - 2) → new ≡ k.end + 4 → m.1 ≡ (0, Some now) ∷ []
-      → length ran ≤ m.0.quota → Runs relates k.value ran now
-      → Allows (Lawful rule nodes) slots id m i (λ _. new) (λ _. handed ran (step slots i new 0 none) m new)
-  grants relates law slots id m k ran now i new mine bare some-left at-word what hand enough runs s o long me _ =
+  pub grants : (relates : P → P → P → P → Type 0) → Ends rule nodes relates → (slots id : ℕ) (m : SeatState P) (k : Ownership P) (count : ℕ) (ran : List (P × P)) (now : P) (i new : ℕ) → m.0.stage ≡ Owns k → HasNone k → k.first ≢ k.end → i ≡ 1 + 2 * (k.first - 2) → new ≡ k.end + 4 → m.1 ≡ (0, Some now) ∷ []
+      → count ≤ m.0.quota → count ≡ length ran → Runs relates k.value ran now
+      → Allows (Lawful rule nodes) slots id m i (λ _. new) (λ _. handed count ran (step slots i new 0 none) m new)
+  grants relates law slots id m k count ran now i new mine bare some-left at-word what hand enough all runs s o long me _ =
       let n : ℕ = m.0.number in let q = owner_lines rule nodes s o id m.0 k me mine bare.0 in
       let cut = line_cut k.first k.end o.older q.old_line some-left in let x : ℕ = cut.0.0 in let b : ℕ = cut.0.1 in let j = cut.0.2 in let ys : List (Waiter P) = cut.1 in let is : o.older ≡ (x, b, j) ∷ ys = cut.2 in
       let one : k.mark ≡ 1 = q.taken (omega (arith, ap length is)) in
@@ -80,7 +80,7 @@ module _ {P : Type 0} (rule : Goods P → Type 0) (nodes : ℕ) where
       -- the next node's desk, but for its status
       let as-before : with_status (at x).status (at' x) ≡ at x =
       λ t. record { status = (at x).status; link = links x t; job = job x t; answer = answer x t; posted = put-none o.posted n x rested.1.1 t; answered = o.answered x } in
-      let w : View P = ended m.0 ran (entry m.0 Grant i new) in
+      let w : View P = ended m.0 count ran (entry m.0 Grant i new) in
       let old : AllWait at ((x, b, j) ∷ ys) = subst (AllWait at) is o.old_waits in
       let waited : Waits b j (with_status (at x).status (at' x)) = subst (Waits b j) (sym as-before) old.0 in
       let place : i ≡ 1 + 2 * x = omega (arith, cut.3) in
@@ -112,6 +112,6 @@ module _ {P : Type 0} (rule : Goods P → Type 0) (nodes : ℕ) where
               (get_or-set_same s.words (1 + 2 * x) (e + 4) 0 (omega (arith, o.wide)), waited.2, waited.3, keeps-status j (at x).status (at' x) waited.4),
               set_here s.homes 0 (some (Some now)) (omega (arith, o.long)),
             )
-            (put-back rule nodes relates law s o id m.0 k ran now (entry m.0 Grant i new) me mine bare enough runs))),
-        refl,
+            (put-back rule nodes relates law s o id m.0 k count ran now (entry m.0 Grant i new) me mine bare enough all runs))),
+        ap (λ (c : List (ℕ × Option P)). (w, rest c)) hand,
       )

@@ -11,9 +11,9 @@ use Rattle.waiter_chain.specs.declared.view.Stage.TheVariants.{Idle, Holding, Cl
 use Rattle.waiter_chain.specs.declared.view.Event.TheVariants.{LoadStatus}
 use Rattle.waiter_chain.specs.Goods.{part, goods, Goods}
 use Rattle.waiter_chain.specs.Chains.{Waiter, desk, Desk, kind, Finished, line_weight, part_of, granted, Queued, Held, Lawful}
-use Rattle.waiter_chain.specs.Steps.{SoundJob, SoundAnswer, SeatState, Ranged, ownership_back, entry, moved, polled_job}
+use Rattle.waiter_chain.specs.Steps.{SoundJob, SoundAnswer, SeatState, Ranged, ownership_back, entry, moved, polled_job, polled}
 use Rattle.waiter_chain.proofs.Rules.{live, low_node, unmoved}
-use Rattle.waiter_chain.proofs.Polls.{ranged, behind-idle}
+use Rattle.waiter_chain.proofs.Polls.{ranged, behind-idle, polls}
 use Rattle.waiter_chain.proofs.Links.{waits_at}
 use Rattle.waiter_chain.proofs.Collects.{finds-done}
 use Rattle.waiter_chain.proofs.Takes.{takes-back}
@@ -34,6 +34,9 @@ module _ {P : Type 0} where
   same-behind : (b c : ℕ) (i j : P) → ◌≡◌ {A = Stage P} (Behind b (Some i)) (Behind c (Some j)) → ◌≡◌ {A = ℕ × P} (b, i) (c, j)
   unfolding behind_of
   same-behind b c i j e = ap (behind_of b i) e
+
+  none-some : (b c : ℕ) (j : P) → ◌≡◌ {A = Stage P} (Behind b None) (Behind c (Some j)) → ⊥
+  none-some b c j e = cc
 
 module _ {P : Type 0} (rule : Goods P → Type 0) (nodes : ℕ) where
   pub polls-job : (known : Goods P → Type 0) → ((g : Goods P) → rule g → known g) → (slots id : ℕ) (m : SeatState P) (k b : ℕ) (i : P) → m.0.stage ≡ Behind b (Some i) → k ≡ 1 + 2 * m.0.number
@@ -77,14 +80,22 @@ module _ {P : Type 0} (rule : Goods P → Type 0) (nodes : ℕ) where
       let f = takes-back rule nodes s o id m b (r - 4) k i with.0 steps me mine was in
       let w : View P = moved m.0 (Owns (ownership_back b (r - 4) i y)) e in (
         w,
-        chain (takes 0 (Some y)) (takes (1 + 2 * n) (Some i)),
+        chain (takes (1 + 2 * n) (Some i)) (takes 0 (Some y)),
         f.1,
         f.2,
         λ c j z. (
           (λ small. absurd (omega (arith, big))),
           (λ three. absurd (omega (arith, big, three))),
-          λ _. subst (λ (x : ℕ × P). Ranged slots x.0 (r - 4) × ((v : P) × ◌≡◌ {A = SeatState P} (w, (1 + 2 * n, Some i) ∷ (0, Some y) ∷ m.1) (moved m.0 (Owns (ownership_back x.0 (r - 4) x.1 v)) e, (1 + 2 * n, Some x.1) ∷ (0, Some v) ∷ m.1) × SoundJob known v (part m.0.quota m.0.own) n x.1)) (same-behind b c i j (sym mine ∙ z))
+          λ _. subst (λ (x : ℕ × P). Ranged slots x.0 (r - 4) × ((v : P) × ◌≡◌ {A = SeatState P} (w, (0, Some y) ∷ (1 + 2 * n, Some i) ∷ m.1) (moved m.0 (Owns (ownership_back x.0 (r - 4) x.1 v)) e, (0, Some v) ∷ (1 + 2 * n, Some x.1) ∷ m.1) × SoundJob known v (part m.0.quota m.0.own) n x.1)) (same-behind b c i j (sym mine ∙ z))
               (ranged nodes slots b (r - 4) o.older (sym long ∙ o.long) (λ l d. low_node rule nodes s o l (omega arith)) q.old_line q.low_end, (y, refl, (goods o.value o.posted o.answered (map part_of s.views), tells _ o.goods_rule, refl, (id, at_map part_of s.views id m.0 me), f.3))),
         ),
       )))
       (place rule nodes s o id b m.0 (Some i) me mine)
+
+  -- the step of any waiting node
+  pub polls-any : (known : Goods P → Type 0) → ((g : Goods P) → rule g → known g) → (slots id : ℕ) (m : SeatState P) (k b : ℕ) (h : Option P) → m.0.stage ≡ Behind b h → k ≡ 1 + 2 * m.0.number
+      → Allows (Lawful rule nodes) slots id m k (λ x. x) (polled known (step slots k 0 0 none) m)
+  polls-any known tells slots id m k b None mine is s o long me small =
+      let t = polls rule nodes known tells slots id m k b mine is s o long me small in (t.0, t.1, t.2, t.3, (t.4, λ c j z. absurd (none-some b c j (sym mine ∙ z))))
+  polls-any known tells slots id m k b (Some i) mine is s o long me small =
+      let t = polls-job known tells slots id m k b i mine is s o long me small in (t.0, t.1, t.2, t.3, ((λ c z. absurd (none-some c b i (sym z ∙ mine))), t.4))

@@ -9,6 +9,7 @@ pub mod Numbers
 pub mod Closes
 pub mod Opens
 pub mod Hands
+pub mod Turns
 pub mod Links
 pub mod Collects
 pub mod Serves
@@ -20,5 +21,7 @@ pub mod Settles
 pub mod Entering
 pub mod Shown
 pub mod JobPolls
+pub mod Polled
 pub mod Gives
+pub mod Endings
 pub mod Helps

@@ -14,7 +14,7 @@ use Rattle.waiter_chain.specs.declared.view.Stage.TheVariants.{Idle, Holding, Cl
 use Rattle.waiter_chain.specs.declared.view.Event.TheVariants.{LoadStatus}
 use Rattle.waiter_chain.specs.Goods.{part, Goods}
 use Rattle.waiter_chain.specs.Chains.{Waiter, Line, desk, Desk, kind, AllWait, AllDone, front, Weight, weigh, line_weight, Owner, owner_weight, nobody, turn, granted, Queued, Held, Lawful}
-use Rattle.waiter_chain.specs.Steps.{Sound, SeatState, Ranged, ownership, entry, moved, polled}
+use Rattle.waiter_chain.specs.Steps.{Sound, SeatState, Ranged, ownership, entry, moved, polled_plain}
 use Rattle.view_sums.specs.Sums.{same, same-refl, same-pos, term_le, set_self}
 use Rattle.waiter_chain.proofs.Rules.{awake, once, sound, owns-injective, spot, has, desk-same, waits-other, done-other, live, low_node, restaged-own, unmoved, parts-same}
 
@@ -95,7 +95,7 @@ module _ {P : Type 0} (rule : Goods P → Type 0) (nodes : ℕ) where
       (λ h. dite (dec_lt 0 (line_weight g o.older)) (λ l. inr (line-spot n b at o.older o.old_waits l))
       (λ l. inr (line-spot n b at o.newer o.new_waits (omega (arith, there)))))
 
-  pub polls : (known : Goods P → Type 0) → ((g : Goods P) → rule g → known g) → (slots id : ℕ) (m : SeatState P) (k b : ℕ) → m.0.stage ≡ Behind b None → k ≡ 1 + 2 * m.0.number → Allows (Lawful rule nodes) slots id m k (λ x. x) (polled known (step slots k 0 0 none) m)
+  pub polls : (known : Goods P → Type 0) → ((g : Goods P) → rule g → known g) → (slots id : ℕ) (m : SeatState P) (k b : ℕ) → m.0.stage ≡ Behind b None → k ≡ 1 + 2 * m.0.number → Allows (Lawful rule nodes) slots id m k (λ x. x) (polled_plain known (step slots k 0 0 none) m)
   polls known tells slots id m k b mine is s o long me _ =
       let n : ℕ = m.0.number in let r : ℕ = get_or s.words k 0 in let y : P = o.value in
       let live-now = live rule nodes s o id m.0 me (λ z. behind-idle P b None (sym mine ∙ z)) in

@@ -31,7 +31,7 @@ module _ {P : Type 0} (rule : Goods P → Type 0) (nodes : ℕ) where
   -- a load of the next node's link, where its status was found to be 2
   pub takes-job : (known : Goods P → Type 0) → ((g : Goods P) → rule g → known g) → (slots id : ℕ) (m : SeatState P) (k : Ownership P) (i : ℕ) (steps : ℕ → List Entry) → m.0.stage ≡ Owns k → k.next ≡ None → k.job_waits ≡ true → k.first ≢ k.end → i ≡ 2 + 2 * (k.first - 2)
       → Allows (Lawful rule nodes) slots id m i (λ x. x)
-      (λ r n. (r ≡ 0 → n ≡ (with_steps m.0 m.0.stage (steps r), m.1)) × (r ≢ 0 → (j : P) × (a : Option P) × (n ≡ (with_steps m.0 (Owns (with_next k (k.first - 2) r j)) (steps r), (2 + 2 * (k.first - 2), a) ∷ (1 + 2 * (k.first - 2), Some j) ∷ m.1)) × SoundJob known k.value (part m.0.quota m.0.own) (k.first - 2) j))
+      (λ r n. (r ≡ 0 → n ≡ (with_steps m.0 m.0.stage (steps r), m.1)) × (r ≢ 0 → (j : P) × (a : Option P) × (n ≡ (with_steps m.0 (Owns (with_next k (k.first - 2) r j)) (steps r), (2 + 2 * (k.first - 2), a) ∷ (1 + 2 * (k.first - 2), Some j) ∷ m.1)) × (m.0.number ≢ k.first - 2) × SoundJob known k.value (part m.0.quota m.0.own) (k.first - 2) j))
   takes-job known tells slots id m k i steps mine no-next seen some-left is s o long me _ =
       let x : ℕ = k.first - 2 in let r : ℕ = get_or s.words i 0 in let n : ℕ = m.0.number in
       let at : ℕ → Desk P = desk s.words s.homes o.posted o.answered in
@@ -90,7 +90,7 @@ module _ {P : Type 0} (rule : Goods P → Type 0) (nodes : ℕ) where
               tt,
             )
             (subst (λ ps. rule (goods o.value o.posted o.answered ps)) (sym (map-set_same part_of s.views id m.0 w me refl)) o.goods_rule)),
-        ((λ z. absurd (linked z)), λ _. (j, a, refl, (goods o.value o.posted o.answered (map part_of s.views), tells _ o.goods_rule, sym h.4, (id, at_map part_of s.views id m.0 me), waits.0.4.1))),
+        ((λ z. absurd (linked z)), λ _. (j, a, refl, ne, (goods o.value o.posted o.answered (map part_of s.views), tells _ o.goods_rule, sym h.4, (id, at_map part_of s.views id m.0 me), waits.0.4.1))),
       ))
 
   -- the store of 3 in the status of the node whose job was run

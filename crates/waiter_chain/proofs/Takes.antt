@@ -54,8 +54,8 @@ module _ {P : Type 0} (rule : Goods P → Type 0) (nodes : ℕ) where
 
   -- a load of its own status by a node that waits with a job, and was granted
   pub takes-back : (s : State (Option P) (View P)) (o : Lawful rule nodes s) (id : ℕ) (m : SeatState P) (b e k : ℕ) (i j : P) (steps : List Entry) → get_elem? s.views id ≡ some m.0 → m.0.stage ≡ Behind b (Some i) → o.owner ≡ granted m.0.number b (Some j) e
-      → (j ≡ i) × Valid s.homes m.1 (chain (takes 0 (Some o.value)) (takes (1 + 2 * m.0.number) (Some i)))
-      × Lawful rule nodes (stepped s k (get_or s.words k 0) id m.1 (with_steps m.0 (Owns (ownership_back b e i o.value)) steps) (chain (takes 0 (Some o.value)) (takes (1 + 2 * m.0.number) (Some i))))
+      → (j ≡ i) × Valid s.homes m.1 (chain (takes (1 + 2 * m.0.number) (Some i)) (takes 0 (Some o.value)))
+      × Lawful rule nodes (stepped s k (get_or s.words k 0) id m.1 (with_steps m.0 (Owns (ownership_back b e i o.value)) steps) (chain (takes (1 + 2 * m.0.number) (Some i)) (takes 0 (Some o.value))))
       × (o.posted m.0.number ≡ some i)
   takes-back s o id m b e k i j steps me mine was =
       let n : ℕ = m.0.number in let y : P = o.value in
@@ -68,25 +68,25 @@ module _ {P : Type 0} (rule : Goods P → Type 0) (nodes : ℕ) where
       let own : j ≡ i = ⊎_elim (λ (z : (at n).posted ≡ some i). some-injective j i (sym here.3.1 ∙ z)) (λ (z : (a : P) × ((at n).answered ≡ some (i, a))). absurd (some-ne-none (i, z.0) (sym z.1 ∙ here.2))) note in
       let r : Ownership P = ownership_back b e i y in
       let w : View P = with_steps m.0 (Owns r) steps in
-      let homes₁ : List (Maybe (Option P)) = set s.homes 0 none in
-      let homes : List (Maybe (Option P)) = set homes₁ (1 + 2 * n) none in
+      let homes₁ : List (Maybe (Option P)) = set s.homes (1 + 2 * n) none in
+      let homes : List (Maybe (Option P)) = set homes₁ 0 none in
       let at' : ℕ → Desk P = desk s.words homes o.posted o.answered in
       let counted = once rule nodes s o n in let one = same-refl n in
       let ours : owner_weight {P = P} (awake n) o.owner ≡ same n n = ap (owner_weight {P = P} (awake n)) was in
       let elsewhere : (i : ℕ) → i ≢ n → at' i ≡ at i = λ i ne. desk-same s.words s.words s.homes homes o.posted o.posted o.answered o.answered i refl refl
-      (set_else homes₁ (1 + 2 * n) (1 + 2 * i) none (λ z. ne (omega arith)) ∙ set_else s.homes 0 (1 + 2 * i) none (λ z. omega arith))
-      (set_else homes₁ (1 + 2 * n) (2 + 2 * i) none (λ z. omega arith) ∙ set_else s.homes 0 (2 + 2 * i) none (λ z. omega arith)) refl refl in
-      let answer : get_elem? homes (2 + 2 * n) ≡ get_elem? s.homes (2 + 2 * n) = set_else homes₁ (1 + 2 * n) (2 + 2 * n) none (λ z. omega arith) ∙ set_else s.homes 0 (2 + 2 * n) none (λ z. omega arith) in (
+      (set_else homes₁ 0 (1 + 2 * i) none (λ z. omega arith) ∙ set_else s.homes (1 + 2 * n) (1 + 2 * i) none (λ z. ne (omega arith)))
+      (set_else homes₁ 0 (2 + 2 * i) none (λ z. omega arith) ∙ set_else s.homes (1 + 2 * n) (2 + 2 * i) none (λ z. omega arith)) refl refl in
+      let answer : get_elem? homes (2 + 2 * n) ≡ get_elem? s.homes (2 + 2 * n) = set_else homes₁ 0 (2 + 2 * n) none (λ z. omega arith) ∙ set_else s.homes (1 + 2 * n) (2 + 2 * n) none (λ z. omega arith) in (
         own,
-        (h.2, set_else s.homes 0 (1 + 2 * n) none (λ z. omega arith) ∙ here.3.0 ∙ (λ t. some (some (Some (own t))))),
+        (here.3.0 ∙ (λ t. some (some (Some (own t)))), set_else s.homes (1 + 2 * n) 0 none (λ z. omega arith) ∙ h.2),
         subst (λ (ws : List ℕ). Lawful rule nodes record { words = ws; homes = homes; views = set s.views id w }) (sym (set_self s.words k))
-            (restaged-own rule nodes s o id m.0 w s.words homes o.posted o.answered (turn n r) o.older o.newer o.done y me live-now refl refl refl (omega arith) (λ _. refl) refl (length-set homes₁ (1 + 2 * n) none ∙ length-set s.homes 0 none) (λ _. refl)
+            (restaged-own rule nodes s o id m.0 w s.words homes o.posted o.answered (turn n r) o.older o.newer o.done y me live-now refl refl refl (omega arith) (λ _. refl) refl (length-set homes₁ 0 none ∙ length-set s.homes (1 + 2 * n) none) (λ _. refl)
             (λ g waking. omega (arith, ap (g n) mine, ap (owner_weight g) was, ap (λ (y : P). g n (Behind b (Some y))) own))
             (λ l z. ap (turn n) (owns-injective _ _ z)) (λ l u p _ there z. absurd (granted-turn _ _ _ _ _ _ (sym (o.owned l u p there z) ∙ was)))
             elsewhere
-            ((set_here homes₁ (1 + 2 * n) none (omega (arith, o.long, low, length-set s.homes 0 none)), here.3.1 ∙ (λ t. some (own t))), (here.1.0, answer ∙ here.1.1), here.2)
+            ((set_else homes₁ 0 (1 + 2 * n) none (λ z. omega arith) ∙ set_here s.homes (1 + 2 * n) none (omega (arith, o.long, low)), here.3.1 ∙ (λ t. some (own t))), (here.1.0, answer ∙ here.1.1), here.2)
             (waits-other at at' n elsewhere o.older (omega arith) o.old_waits) (waits-other at at' n elsewhere o.newer (omega arith) o.new_waits) (done-other at at' n elsewhere o.done (omega arith) o.finished)
-            (h.0, inl refl, (λ z. absurd (true≢false (sym z))), (set_else homes₁ (1 + 2 * n) 0 none (λ z. omega arith) ∙ set_here s.homes 0 none (omega (arith, o.long))), refl, tt, tt)
+            (h.0, inl refl, (λ z. absurd (true≢false (sym z))), set_here homes₁ 0 none (omega (arith, o.long, length-set s.homes (1 + 2 * n) none)), refl, tt, tt)
             (parts-same rule nodes s.views id m.0 w y o.posted o.answered me refl o.goods_rule)),
         here.3.1 ∙ (λ t. some (own t)),
       )

@@ -1,10 +1,9 @@
 -- What the calls on a chain promise.
 use Rattle.std.specs.Prelude.{◌≡◌, ◌≢◌, ◌⊎◌, ℕ, ◌+◌, ◌-◌, ◌*◌, ◌<◌, ◌≤◌, List, [], ◌∷◌, ◌++◌, length, Option, Some, None, Bool, true, false}
 use Rattle.atomic_table.specs.Table.{rest}
-use Rattle.waiter_chain.specs.Goods.{Goods, part, Runs}
-use Rattle.waiter_chain.specs.Steps.{SeatState, Ranged, HasNone, Sound, SoundJob, SoundAnswer, WinsBack, ownership, ownership_with, passed, retook, seen_job, with_next, settled_notes, served, settled, collected, paid, linked_by, with_steps, entry, moved, noted, stays, ended}
-use Rattle.waiter_chain.specs.Chains.{entering}
-use Rattle.waiter_chain.specs.declared.view.OwnSlot.TheVariants.{Unused}
+use Rattle.waiter_chain.specs.Goods.{Goods, part, Runs, Counts}
+use Rattle.waiter_chain.specs.Steps.{SeatState, Ranged, OwnHand, HasOwn, Sound, SoundJob, SoundAnswer, WinsBack, ownership, ownership_with, passed, retook, seen_job, with_next, settled_notes, served, settled, collected, paid, linked_by, with_steps, entry, moved, noted, stays, ended}
+use Rattle.waiter_chain.specs.Chains.{entering, owed, kind as status_of}
 use Rattle.waiter_chain.specs.declared.turn.Kind.{Kind}
 use Rattle.waiter_chain.specs.declared.turn.Kind.TheVariants as kind
 use Rattle.waiter_chain.specs.declared.view.Entry.{Entry}
@@ -39,9 +38,9 @@ module _ {P : Type 0} where
   abbrev pub linked_state : ℕ → SeatState P → SeatState P
   linked_state b m = (linked_by m.0 (entry m.0 StoreLink (2 + 2 * m.0.number) b), m.1)
 
-  -- the pass owns the lock by this turn, as these notes say, with this in slot 0
+  -- the pass owns the lock by this turn, as these notes say, with this in slot 0, and with its own job slot in hand or not
   abbrev pub OwnsBy : ℕ → Turn → Option P → SeatState P → Ownership P → Type 0
-  OwnsBy slots t hand m k = (m.0.stage ≡ Owns k) × (k.first ≡ t.first) × (k.end ≡ t.end) × (k.mark ≡ t.mark) × (m.1 ≡ (0, hand) ∷ []) × Ranged slots t.first t.end × HasNone k
+  OwnsBy slots t hand m k = (m.0.stage ≡ Owns k) × (k.first ≡ t.first) × (k.end ≡ t.end) × (k.mark ≡ t.mark) × (m.1 ≡ (0, hand) ∷ rest m.1) × Ranged slots t.first t.end × HasOwn m k
 
   abbrev pub HasTurn : ℕ → Turn → SeatState P → Type 0
   HasTurn slots t m = (hand : Option P) × (k : Ownership P) × OwnsBy slots t hand m k
@@ -83,17 +82,13 @@ module _ {P : Type 0} where
   ArrivedAs rule slots k b m n (arrived.Owner t) = EnteredAs rule slots k b m n (entered.Owner t)
   ArrivedAs rule slots k b m n arrived.Waiting = (l : SeatState P) × EnteredAs rule slots k b m l entered.Behind × (n ≡ linked_state b l)
 
-  -- one load of its own status found 1, or 4 and more
-  abbrev pub PolledAs : (Goods P → Type 0) → ℕ → ℕ → SeatState P → SeatState P → Polled → Type 0
-  PolledAs rule slots b m n (polled.Still word) = (word ≡ 1) × (n ≡ stays m (entry m.0 LoadStatus (1 + 2 * m.0.number) word))
-  PolledAs rule slots b m n polled.Done = ⊥
-  PolledAs rule slots b m n (polled.Owner t) = Won rule slots t m (entry m.0 LoadStatus (1 + 2 * m.0.number) (t.end + 4)) n × (t.first ≡ b) × (t.mark ≡ 1)
-
-  -- one load of its own status by a pass that has posted a job: it waits still, or its answer is in its hand, or it is the owner and its job is in its own slot again
-  abbrev pub PolledJobAs : (Goods P → Type 0) → ℕ → ℕ → P → SeatState P → SeatState P → Polled → Type 0
-  PolledJobAs rule slots b job m n (polled.Still word) = (word ≡ 2) × (n ≡ stays m (entry m.0 LoadStatus (1 + 2 * m.0.number) word))
-  PolledJobAs rule slots b job m n polled.Done = (a : P) × (n ≡ (moved m.0 (Done job a) (entry m.0 LoadStatus (1 + 2 * m.0.number) 3), (2 + 2 * m.0.number, Some a) ∷ m.1)) × SoundAnswer rule m.0.number job a
-  PolledJobAs rule slots b job m n (polled.Owner t) = (t.first ≡ b) × (t.mark ≡ 1) × Ranged slots t.first t.end × WinsBack rule m job t.first t.end (entry m.0 LoadStatus (1 + 2 * m.0.number) (t.end + 4)) n
+  -- one load of its own status, by a pass that has posted this job or none: it waits still, or its answer is in its hand, or it is the owner, with the job that it posted in its own slot again
+  abbrev pub PolledAs : (Goods P → Type 0) → ℕ → ℕ → Option P → SeatState P → SeatState P → Polled → Type 0
+  PolledAs rule slots b h m n (polled.Still word) = (word ≡ status_of h) × (n ≡ stays m (entry m.0 LoadStatus (1 + 2 * m.0.number) word))
+  PolledAs rule slots b None m n polled.Done = ⊥
+  PolledAs rule slots b (Some job) m n polled.Done = (a : P) × (n ≡ (moved m.0 (Done job a) (entry m.0 LoadStatus (1 + 2 * m.0.number) 3), (2 + 2 * m.0.number, Some a) ∷ m.1)) × SoundAnswer rule m.0.number job a
+  PolledAs rule slots b None m n (polled.Owner t) = Won rule slots t m (entry m.0 LoadStatus (1 + 2 * m.0.number) (t.end + 4)) n × (t.first ≡ b) × (t.mark ≡ 1)
+  PolledAs rule slots b (Some job) m n (polled.Owner t) = (t.first ≡ b) × (t.mark ≡ 1) × Ranged slots t.first t.end × WinsBack rule m job t.first t.end (entry m.0 LoadStatus (1 + 2 * m.0.number) (t.end + 4)) n
 
   -- the next node's status was loaded
   abbrev pub KindSeen : ℕ → SeatState P → SeatState P → Kind → Type 0
@@ -103,31 +98,31 @@ module _ {P : Type 0} where
   -- the next node's link was loaded: 0, or the word that it waits behind, and then its two slots are in the owner's hand
   abbrev pub LinkSeen : (Goods P → Type 0) → ℕ → SeatState P → SeatState P → ℕ → Type 0
   LinkSeen rule x m n link = (link ≡ 0 → n ≡ stays m (entry m.0 LoadLink (2 + 2 * x) link))
-      × (link ≢ 0 → (k : Ownership P) × (job : P) × (a : Option P) × (m.0.stage ≡ Owns k) × (n ≡ (moved m.0 (Owns (with_next k x link job)) (entry m.0 LoadLink (2 + 2 * x) link), (2 + 2 * x, a) ∷ (1 + 2 * x, Some job) ∷ m.1)) × SoundJob rule k.value (part m.0.quota m.0.own) x job)
+      × (link ≢ 0 → (k : Ownership P) × (job : P) × (a : Option P) × (m.0.stage ≡ Owns k) × (n ≡ (moved m.0 (Owns (with_next k x link job)) (entry m.0 LoadLink (2 + 2 * x) link), m.1 ++ (2 + 2 * x, a) ∷ (1 + 2 * x, Some job) ∷ [])) × (m.0.number ≢ x) × SoundJob rule k.value (part m.0.quota m.0.own) x job)
 
-  -- the owner has run these jobs of its own and then the next node's job: the answer lies in that node's slot, and the value is in hand
-  abbrev pub MayServe : (P → P → P → P → Type 0) → ℕ → List (P × P) → Turn → ℕ → SeatState P → Type 0
-  MayServe relates slots ran t link m = (k : Ownership P) × (job : P) × (answer : P) × (mid : P) × (now : P) × (z : Option P) × (m.0.stage ≡ Owns k) × (k.first ≡ t.first) × (k.end ≡ t.end) × (k.mark ≡ t.mark)
-      × (k.next ≡ Some (record { node = t.first - 2; behind = link; job = job })) × (k.mine ≡ Unused)
-      × (m.1 ≡ (2 + 2 * (t.first - 2), Some answer) ∷ (1 + 2 * (t.first - 2), z) ∷ (0, Some now) ∷ []) × (1 < t.first) × (2 * t.first < slots + 3)
-      × Runs relates k.value ran mid × (length ran ≤ m.0.quota) × relates mid job answer now
+  -- the owner has run these jobs of its own, of which it pays for so many, and then the next node's job: the answer lies in that node's slot, and the value is in hand
+  abbrev pub MayServe : (P → P → P → P → Type 0) → ℕ → ℕ → List (P × P) → Turn → ℕ → SeatState P → Type 0
+  MayServe relates slots count ran t link m = (k : Ownership P) × (job : P) × (answer : P) × (mid : P) × (now : P) × (z : Option P) × (own : List (ℕ × Option P)) × (m.0.stage ≡ Owns k) × (k.first ≡ t.first) × (k.end ≡ t.end) × (k.mark ≡ t.mark)
+      × (k.next ≡ Some (record { node = t.first - 2; behind = link; job = job })) × OwnHand k.mine m.0.number own
+      × (m.1 ≡ (0, Some now) ∷ (own ++ (2 + 2 * (t.first - 2), Some answer) ∷ (1 + 2 * (t.first - 2), z) ∷ [])) × (1 < t.first) × (2 * t.first < slots + 3)
+      × Runs relates k.value ran mid × (count ≤ m.0.quota) × Counts (owed k.mine) ran count × relates mid job answer now
 
   -- that node is done, and the owner's own jobs are settled
-  abbrev pub Served : ℕ → List (P × P) → Turn → ℕ → SeatState P → SeatState P → Turn → Type 0
-  Served slots ran t link m n u = (u.first ≡ link) × (u.end ≡ t.end) × (u.mark ≡ t.mark) × HasTurn slots u n
-      × ((k : Ownership P) × (now : P) × (m.0.stage ≡ Owns k) × (rest (rest m.1) ≡ (0, Some now) ∷ []) × (n ≡ (with_steps (settled m.0 (m.0.quota - length ran) ran (settled_notes k now)) (Owns (served (settled_notes k now) link now)) (m.0.steps ++ entry m.0 Serve (1 + 2 * (t.first - 2)) 3 ∷ []), (0, Some now) ∷ [])))
+  abbrev pub Served : ℕ → ℕ → List (P × P) → Turn → ℕ → SeatState P → SeatState P → Turn → Type 0
+  Served slots count ran t link m n u = (u.first ≡ link) × (u.end ≡ t.end) × (u.mark ≡ t.mark) × HasTurn slots u n
+      × ((k : Ownership P) × (now : P) × (answer : P) × (z : Option P) × (own : List (ℕ × Option P)) × (m.0.stage ≡ Owns k) × (m.1 ≡ (0, Some now) ∷ (own ++ (2 + 2 * (t.first - 2), Some answer) ∷ (1 + 2 * (t.first - 2), z) ∷ [])) × (n ≡ (with_steps (settled m.0 (m.0.quota - count) ran (settled_notes k now)) (Owns (served (settled_notes k now) link now)) (m.0.steps ++ entry m.0 Serve (1 + 2 * (t.first - 2)) 3 ∷ []), (0, Some now) ∷ own)))
 
   -- the pass has its answer, and is idle
   abbrev pub Rested : SeatState P → SeatState P → Type 0
   Rested m n = (job : P) × (answer : P) × (m.0.stage ≡ Done job answer) × (n ≡ (collected m.0 (job, answer) (m.0.steps ++ entry m.0 SetStatus (1 + 2 * m.0.number) 0 ∷ []), []))
 
-  -- the value in hand is what these jobs made of the value that the owner took, and the quota suffices for them
-  abbrev pub MayEnd : (P → P → P → P → Type 0) → List (P × P) → SeatState P → Type 0
-  MayEnd relates ran m = (k : Ownership P) × (now : P) × (m.0.stage ≡ Owns k) × (m.1 ≡ (0, Some now) ∷ []) × (length ran ≤ m.0.quota) × Runs relates k.value ran now
+  -- the value in hand is what these jobs made of the value that the owner took, a job that the owner had posted is among them, and the quota suffices for the others, which are so many
+  abbrev pub MayEnd : (P → P → P → P → Type 0) → ℕ → List (P × P) → SeatState P → Type 0
+  MayEnd relates count ran m = (k : Ownership P) × (now : P) × (m.0.stage ≡ Owns k) × (m.1 ≡ (0, Some now) ∷ rest m.1) × (count ≤ m.0.quota) × Counts (owed k.mine) ran count × Runs relates k.value ran now
 
-  -- by the step e the ownership has ended: the quota has fallen by the number of these jobs, and these stand at the end of the pass's list
-  abbrev pub Ended : List (P × P) → Entry → SeatState P → SeatState P → Type 0
-  Ended ran e m n = n ≡ (ended m.0 ran e, [])
+  -- by the step e the ownership has ended: the quota has fallen by so many, these jobs stand at the end of the pass's list, each with its answer, and no slot is in hand
+  abbrev pub Ended : ℕ → List (P × P) → Entry → SeatState P → SeatState P → Type 0
+  Ended count ran e m n = n ≡ (ended m.0 count ran e, [])
 
   -- the owner has seen that others came: by the load, or by an exchange that found another word than its mark
   abbrev pub SawOthers : SeatState P → SeatState P → Ownership P → Type 0
@@ -138,9 +133,9 @@ module _ {P : Type 0} where
   Took m n k t = (t.end ≡ k.mark) × (t.mark ≡ 1) × ((seen : SeatState P) × SawOthers m seen k × (n ≡ (moved seen.0 (Owns (retook k t.first)) (entry m.0 TakeChain 0 t.first), m.1)))
 
   -- where the chain wasn't empty nothing happened; else the lock was freed, or the newest chain was taken
-  abbrev pub FollowsAs : ℕ → List (P × P) → Turn → SeatState P → SeatState P → Follow → Type 0
-  FollowsAs slots ran old m n follow.Free = (old.first ≡ old.end) × Ended ran (entry m.0 Free 0 old.mark) m n
-  FollowsAs slots ran old m n (follow.Waits t node) = (t.first ≢ t.end) × (node + 2 ≡ t.first) × HasTurn slots t n
+  abbrev pub FollowsAs : ℕ → ℕ → List (P × P) → Turn → SeatState P → SeatState P → Follow → Type 0
+  FollowsAs slots count ran old m n follow.Free = (old.first ≡ old.end) × Ended count ran (entry m.0 Free 0 old.mark) m n
+  FollowsAs slots count ran old m n (follow.Waits t node) = (t.first ≢ t.end) × (node + 2 ≡ t.first) × HasTurn slots t n
       × (((old.first ≢ old.end) × (t ≡ old) × (n ≡ m)) ⊎ ((old.first ≡ old.end) × ((k : Ownership P) × (m.0.stage ≡ Owns k) × Took m n k t)))
 
   abbrev pub TookAs : ℕ → ℕ → SeatState P → SeatState P → Follow → Type 0

@@ -49,6 +49,11 @@ module _ {P : Type 0} where
   Pays none ran before after = before ≡ after + length ran
   Pays (some j) ran before after = (before + 1 ≡ after + length ran) × ((k : ℕ) × (a : P) × (get_elem? ran k ≡ some (j, a)))
 
+  -- so many of these jobs are to be paid for as the ownership ends: all, but for the one that the owner had posted, which is among them
+  abbrev pub Counts : Maybe P → List (P × P) → ℕ → Type 0
+  Counts none ran count = count ≡ length ran
+  Counts (some j) ran count = (count + 1 ≡ length ran) × ((k : ℕ) × (a : P) × (get_elem? ran k ≡ some (j, a)))
+
 module _ {P : Type 0} (relates : P → P → P → P → Type 0) where
   -- these jobs, one after another and each with its answer, lead from one value to the other
   abbrev pub Runs : P → List (P × P) → P → Type 0

@@ -68,9 +68,15 @@ module _ {P : Type 0} where
   abbrev pub settled_notes : Ownership P → P → Ownership P
   settled_notes r now = record { first = r.first; end = r.end; mark = r.mark; others_came = r.others_came; job_waits = r.job_waits; next = r.next; mine = run_slot r.mine; value = now }
 
-  -- the owner has no slot of another node, and its own job slot is at home
-  abbrev pub HasNone : Ownership P → Type 0
-  HasNone r = (r.next ≡ None) × (r.mine ≡ Unused)
+  -- what an owner has in hand of its own node: nothing, or its job slot
+  abbrev pub OwnHand : OwnSlot P → ℕ → List (ℕ × Option P) → Type 0
+  OwnHand Unused n c = c ≡ []
+  OwnHand InHand n c = (y : Option P) × (c ≡ (1 + 2 * n, y) ∷ [])
+  OwnHand (Unrun j) n c = (y : Option P) × (c ≡ (1 + 2 * n, y) ∷ [])
+
+  -- the owner has no slot of another node in hand, and behind slot 0 at most its own job slot
+  abbrev pub HasOwn : SeatState P → Ownership P → Type 0
+  HasOwn m r = (r.next ≡ None) × OwnHand r.mine m.0.number (rest m.1)
 
   abbrev pub first_view : ℕ → ℕ → View P
   first_view nodes quota = record { number = 0; spare = nodes - 1; past = []; gone = false; linked = false; quota = quota; stage = Idle; own = []; steps = [] }
@@ -120,9 +126,9 @@ module _ {P : Type 0} where
   abbrev pub linked_by : View P → Entry → View P
   linked_by v e = record { number = v.number; spare = v.spare; past = v.past; gone = v.gone; linked = true; quota = v.quota; stage = v.stage; own = v.own; steps = v.steps ++ e ∷ [] }
 
-  -- the step that ends an ownership, in which the pass ran these jobs of its own
-  abbrev pub ended : View P → List (P × P) → Entry → View P
-  ended v ran e = record { number = v.number; spare = v.spare; past = v.past; gone = v.gone; linked = v.linked; quota = v.quota - length ran; stage = Idle; own = v.own ++ ran; steps = v.steps ++ e ∷ [] }
+  -- the step that ends an ownership, in which the pass ran these jobs of its own and pays for so many of them
+  abbrev pub ended : View P → ℕ → List (P × P) → Entry → View P
+  ended v count ran e = record { number = v.number; spare = v.spare; past = v.past; gone = v.gone; linked = v.linked; quota = v.quota - count; stage = Idle; own = v.own ++ ran; steps = v.steps ++ e ∷ [] }
 
   -- the freight's rule holds of this value, beside a pass with this part
   abbrev pub Sound : (Goods P → Type 0) → P → Part P → Type 0
@@ -171,13 +177,14 @@ module _ {P : Type 0} where
   abbrev pub linking : Telling P
   linking st m r n = n ≡ (linked_by m.0 (entry m.0 StoreLink st.word r), m.1)
 
-  abbrev pub polled : (Goods P → Type 0) → Telling P
-  polled rule st m r n = (b : ℕ) → m.0.stage ≡ Behind b None
+  -- a node with no job waits still, or becomes the owner
+  abbrev pub polled_plain : (Goods P → Type 0) → Telling P
+  polled_plain rule st m r n = (b : ℕ) → m.0.stage ≡ Behind b None
       → (r < 4 → (r ≡ 1) × (n ≡ stays m (entry m.0 LoadStatus st.word r))) × (4 ≤ r → Ranged st.slots b (r - 4) × Wins rule m b (r - 4) 1 (entry m.0 LoadStatus st.word r) n)
 
   -- the seat becomes the owner, with the value and with its own posted job
   abbrev pub WinsBack : (Goods P → Type 0) → SeatState P → P → ℕ → ℕ → Entry → SeatState P → Type 0
-  WinsBack rule m job first end e n = (y : P) × (n ≡ (moved m.0 (Owns (ownership_back first end job y)) e, (1 + 2 * m.0.number, Some job) ∷ (0, Some y) ∷ m.1)) × SoundJob rule y (part m.0.quota m.0.own) m.0.number job
+  WinsBack rule m job first end e n = (y : P) × (n ≡ (moved m.0 (Owns (ownership_back first end job y)) e, (0, Some y) ∷ (1 + 2 * m.0.number, Some job) ∷ m.1)) × SoundJob rule y (part m.0.quota m.0.own) m.0.number job
 
   -- a node with a job waits still, or finds that its job has run, or becomes the owner and takes its job back
   abbrev pub polled_job : (Goods P → Type 0) → Telling P
@@ -186,15 +193,19 @@ module _ {P : Type 0} where
       × (r ≡ 3 → (a : P) × (n ≡ (moved m.0 (Done j a) (entry m.0 LoadStatus st.word r), (2 + 2 * m.0.number, Some a) ∷ m.1)) × SoundAnswer rule m.0.number j a)
       × (4 ≤ r → Ranged st.slots b (r - 4) × WinsBack rule m j b (r - 4) (entry m.0 LoadStatus st.word r) n)
 
-  abbrev pub freed : List (P × P) → Telling P
-  freed ran st m r n = (r ≡ st.first → n ≡ (ended m.0 ran (entry m.0 Free st.word r), rest m.1))
+  -- a waiting node loads its own status, whether it has posted a job or not
+  abbrev pub polled : (Goods P → Type 0) → Telling P
+  polled rule st m r n = polled_plain rule st m r n × polled_job rule st m r n
+
+  abbrev pub freed : ℕ → List (P × P) → Telling P
+  freed count ran st m r n = (r ≡ st.first → n ≡ (ended m.0 count ran (entry m.0 Free st.word r), []))
       × (r ≢ st.first → (k : Ownership P) → m.0.stage ≡ Owns k → n ≡ (moved m.0 (Owns (passed k)) (entry m.0 Free st.word r), m.1))
 
   abbrev pub took : Telling P
   took st m r n = (k : Ownership P) → m.0.stage ≡ Owns k → (n ≡ (moved m.0 (Owns (retook k r)) (entry m.0 TakeChain st.word r), m.1)) × (r ≢ k.mark) × Ranged st.slots r k.mark
 
-  abbrev pub handed : List (P × P) → Telling P
-  handed ran st m r n = n ≡ (ended m.0 ran (entry m.0 Grant st.word r), rest m.1)
+  abbrev pub handed : ℕ → List (P × P) → Telling P
+  handed count ran st m r n = n ≡ (ended m.0 count ran (entry m.0 Grant st.word r), [])
 
   -- the central word is looked at, which is not listed
   abbrev pub looked : Telling P
@@ -216,13 +227,13 @@ module _ {P : Type 0} where
   -- the next node has not linked; or the owner takes its two slots, with its job in the one
   abbrev pub link_seen : (Goods P → Type 0) → Telling P
   link_seen rule st m r n = (k : Ownership P) × (m.0.stage ≡ Owns k) × (r ≡ 0 → n ≡ stays m (entry m.0 LoadLink st.word r))
-      × (r ≢ 0 → (job : P) × (a : Option P) × (n ≡ (moved m.0 (Owns (with_next k (k.first - 2) r job)) (entry m.0 LoadLink st.word r), (2 + 2 * (k.first - 2), a) ∷ (1 + 2 * (k.first - 2), Some job) ∷ m.1))
+      × (r ≢ 0 → (job : P) × (a : Option P) × (n ≡ (moved m.0 (Owns (with_next k (k.first - 2) r job)) (entry m.0 LoadLink st.word r), (2 + 2 * (k.first - 2), a) ∷ (1 + 2 * (k.first - 2), Some job) ∷ m.1)) × (m.0.number ≢ k.first - 2)
       × SoundJob rule k.value (part m.0.quota m.0.own) (k.first - 2) job)
 
   -- the next node's job has run: the owner gives its two slots back, and settles these jobs of its own
-  abbrev pub job_done : List (P × P) → Telling P
-  job_done ran st m r n = (k : Ownership P) × (x : Next P) × (now : P) × (more : List (ℕ × Option P)) × (m.0.stage ≡ Owns k) × (k.next ≡ Some x) × (rest (rest m.1) ≡ (0, Some now) ∷ more) × Ranged st.slots x.behind k.end
-      × (n ≡ (with_steps (settled m.0 (m.0.quota - length ran) ran (settled_notes k now)) (Owns (served (settled_notes k now) x.behind now)) (m.0.steps ++ entry m.0 Serve st.word r ∷ []), (0, Some now) ∷ more))
+  abbrev pub job_done : ℕ → List (P × P) → Telling P
+  job_done count ran st m r n = (k : Ownership P) × (x : Next P) × (now : P) × (more : List (ℕ × Option P)) × (m.0.stage ≡ Owns k) × (k.next ≡ Some x) × (rest (rest m.1) ≡ (0, Some now) ∷ more) × Ranged st.slots x.behind k.end
+      × (n ≡ (with_steps (settled m.0 (m.0.quota - count) ran (settled_notes k now)) (Owns (served (settled_notes k now) x.behind now)) (m.0.steps ++ entry m.0 Serve st.word r ∷ []), (0, Some now) ∷ more))
 
   -- a pass that has its answer is idle again
   abbrev pub rested : Telling P

@@ -1,5 +1,6 @@
 //! The calls on a chain.
-ghost use Rattle.std.specs.Prelude.{◌≡◌, ◌≢◌, ◌⊎◌, ℕ, ◌+◌, ◌-◌, ◌*◌, ◌^◌, ◌<◌, ◌≤◌, [], ◌∷◌, ◌++◌, ◌↔◌, IsTrue, true, false, length, MatchResult};
+ghost use Rattle.std.specs.Prelude.{◌≡◌, ◌≢◌, ◌⊎◌, ℕ, ◌+◌, ◌-◌, ◌*◌, ◌^◌, ◌<◌, ◌≤◌, [], ◌∷◌, ◌++◌, ◌↔◌, IsTrue, true, false, length, MatchResult, Option};
+ghost use Rattle.atomic_table.specs.Table.{rest};
 ghost use Rattle.waiter_chain.specs.Goods.{Goods};
 ghost use Rattle.waiter_chain.specs.Chains.{covers, entering};
 ghost use Rattle.waiter_chain.specs.Steps.{cut_left, cut_right, joined, entry, waits_to_enter};
@@ -7,7 +8,7 @@ ghost use Rattle.waiter_chain.specs.declared.turn.Kind.TheVariants.{Plain, WithJ
 ghost use Rattle.waiter_chain.specs.Calls.{IsIdle, IsBehind, HasTurn, OwnsBy, TriedIn, WasBusy, MayEnter, readied_state, EnteredAs, WaitsBehind, linked_state, ArrivedAs, PolledAs, FollowsAs, MayEnd, Ended, SawOthers, TookAs};
 ghost use Rattle.waiter_chain.specs.declared.view.Ownership.{Ownership};
 ghost use Rattle.waiter_chain.specs.declared.view.Event.TheVariants as event;
-ghost use Rattle.waiter_chain.specs.declared.view.Stage.TheVariants.{Owns};
+ghost use Rattle.waiter_chain.specs.declared.view.Stage.TheVariants.{Behind, Owns};
 
 use crate::freight::Freight;
 use crate::plays::{
@@ -302,15 +303,17 @@ impl<P: Freight> Chain<P> {
 
     fn poll_as<M: Known<P>>(&self, pass: &mut ChainPass<P>) -> Polled
         requires own { pass.old.seat.table_id ≡ self.now.table.shared.table_id }
-        requires behind { IsBehind pass.old.behind pass.old.seat.me }
+        requires behind { WaitsBehind pass.old.behind pass.old.seat.me }
         requires known { (g : Goods P) → P.rule self.now.table.shared.key g → M.known g }
         ensures own { (pass.new.seat.table_id ≡ pass.old.seat.table_id) × (pass.new.seat.id ≡ pass.old.seat.id) × (pass.new.behind ≡ pass.old.behind) }
-        ensures answer { PolledAs M.known self.now.table.shared.table_id.slots pass.old.behind pass.old.seat.me pass.new.seat.me result }
+        ensures answer { (job : Option P) → pass.old.seat.me.0.stage ≡ Behind pass.old.behind job → PolledAs M.known self.now.table.shared.table_id.slots pass.old.behind job pass.old.seat.me pass.new.seat.me result }
     {
         let status = 1 + 2 * pass.number as usize;
         let word = self.table.shared.load::<Poll<M>>(&mut pass.seat, status);
-        if word < 4 {
+        if word < 3 {
             Polled::Still { word }
+        } else if word == 3 {
+            Polled::Done
         } else {
             Polled::Owner(Turn {
                 first: pass.behind,
@@ -320,12 +323,12 @@ impl<P: Freight> Chain<P> {
         }
     }
 
-    /// One load of its own status: 1 is `Still`, 4 and more is `Owner`.
+    /// One load of its own status, by a pass that waits: 1 or 2 is `Still`, 3 is `Done`, 4 and more is `Owner`.
     pub fn poll(&self, pass: &mut ChainPass<P>) -> Polled
         requires own { pass.old.seat.table_id ≡ self.now.table.shared.table_id }
-        requires behind { IsBehind pass.old.behind pass.old.seat.me }
+        requires behind { WaitsBehind pass.old.behind pass.old.seat.me }
         ensures own { (pass.new.seat.table_id ≡ pass.old.seat.table_id) × (pass.new.seat.id ≡ pass.old.seat.id) × (pass.new.behind ≡ pass.old.behind) }
-        ensures answer { PolledAs (P.rule self.now.table.shared.key) self.now.table.shared.table_id.slots pass.old.behind pass.old.seat.me pass.new.seat.me result }
+        ensures answer { (job : Option P) → pass.old.seat.me.0.stage ≡ Behind pass.old.behind job → PolledAs (P.rule self.now.table.shared.key) self.now.table.shared.table_id.slots pass.old.behind job pass.old.seat.me pass.new.seat.me result }
     {
         self.poll_as::<Brand>(pass)
     }
@@ -335,10 +338,10 @@ impl<P: Freight> Chain<P> {
         requires own { pass.old.seat.table_id ≡ self.now.table.shared.table_id }
         requires turn { HasTurn self.now.table.shared.table_id.slots turn.now pass.old.seat.me }
         requires empty { turn.now.first ≡ turn.now.end }
-        requires ends { MayEnd P.relates M.ran pass.old.seat.me }
-        requires told { M.ran ≡ runs.now.log.items }
+        requires ends { MayEnd P.relates M.count M.ran pass.old.seat.me }
+        requires told { (M.ran ≡ runs.now.log.items) × (M.count ≡ runs.now.count) }
         ensures own { (pass.new.seat.table_id ≡ pass.old.seat.table_id) × (pass.new.seat.id ≡ pass.old.seat.id) }
-        ensures free { result ≡ true → Ended M.ran (entry pass.old.seat.me.0 event.Free 0 turn.now.mark) pass.old.seat.me pass.new.seat.me }
+        ensures free { result ≡ true → Ended M.count M.ran (entry pass.old.seat.me.0 event.Free 0 turn.now.mark) pass.old.seat.me pass.new.seat.me }
         ensures taken { result ≡ false → (k : Ownership P) × (pass.old.seat.me.0.stage ≡ Owns k) × (k.mark ≡ turn.now.mark) × SawOthers pass.old.seat.me pass.new.seat.me k }
     {
         let mark = turn.mark;
@@ -387,9 +390,9 @@ impl<P: Freight> Chain<P> {
     pub fn next(&self, pass: &mut ChainPass<P>, turn: Turn, runs: &OwnRuns<P>) -> Follow
         requires own { pass.old.seat.table_id ≡ self.now.table.shared.table_id }
         requires turn { HasTurn self.now.table.shared.table_id.slots turn pass.old.seat.me }
-        requires ends { turn.first ≡ turn.end → MayEnd P.relates runs.now.log.items pass.old.seat.me }
+        requires ends { turn.first ≡ turn.end → MayEnd P.relates runs.now.count runs.now.log.items pass.old.seat.me }
         ensures own { (pass.new.seat.table_id ≡ pass.old.seat.table_id) × (pass.new.seat.id ≡ pass.old.seat.id) }
-        ensures answer { FollowsAs self.now.table.shared.table_id.slots runs.now.log.items turn pass.old.seat.me pass.new.seat.me result }
+        ensures answer { FollowsAs self.now.table.shared.table_id.slots runs.now.count runs.now.log.items turn pass.old.seat.me pass.new.seat.me result }
     {
         if turn.first != turn.end {
             let node = turn.first - 2;
@@ -410,10 +413,10 @@ impl<P: Freight> Chain<P> {
         requires own { pass.old.seat.table_id ≡ self.now.table.shared.table_id }
         requires turn { HasTurn self.now.table.shared.table_id.slots turn pass.old.seat.me }
         requires waits { turn.first ≢ turn.end }
-        requires ends { MayEnd P.relates M.ran pass.old.seat.me }
-        requires told { M.ran ≡ runs.now.log.items }
+        requires ends { MayEnd P.relates M.count M.ran pass.old.seat.me }
+        requires told { (M.ran ≡ runs.now.log.items) × (M.count ≡ runs.now.count) }
         ensures own { (pass.new.seat.table_id ≡ pass.old.seat.table_id) × (pass.new.seat.id ≡ pass.old.seat.id) }
-        ensures ended { Ended M.ran (entry pass.old.seat.me.0 event.Grant (1 + 2 * (turn.first - 2)) (turn.end + 4)) pass.old.seat.me pass.new.seat.me }
+        ensures ended { Ended M.count M.ran (entry pass.old.seat.me.0 event.Grant (1 + 2 * (turn.first - 2)) (turn.end + 4)) pass.old.seat.me pass.new.seat.me }
     {
         let Turn {
             first,
@@ -433,22 +436,10 @@ impl<P: Freight> Chain<P> {
         requires own { pass.old.seat.table_id ≡ self.now.table.shared.table_id }
         requires turn { HasTurn self.now.table.shared.table_id.slots turn pass.old.seat.me }
         requires waits { turn.first ≢ turn.end }
-        requires ends { MayEnd P.relates runs.now.log.items pass.old.seat.me }
+        requires ends { MayEnd P.relates runs.now.count runs.now.log.items pass.old.seat.me }
         ensures own { (pass.new.seat.table_id ≡ pass.old.seat.table_id) × (pass.new.seat.id ≡ pass.old.seat.id) }
-        ensures ended { Ended runs.now.log.items (entry pass.old.seat.me.0 event.Grant (1 + 2 * (turn.first - 2)) (turn.end + 4)) pass.old.seat.me pass.new.seat.me }
+        ensures ended { Ended runs.now.count runs.now.log.items (entry pass.old.seat.me.0 event.Grant (1 + 2 * (turn.first - 2)) (turn.end + 4)) pass.old.seat.me pass.new.seat.me }
     {
         self.grant_as::<Brand>(pass, turn, runs);
-    }
-
-    /// A plain read and write of slot 0, for its owner. It is no step on a word.
-    pub fn move_slot(&self, pass: &mut ChainPass<P>, slot: u64, value: Option<P>) -> Option<P>
-        requires own { pass.old.seat.table_id ≡ self.now.table.shared.table_id }
-        requires held { (slot ≡ 0) × ((hand : _) × (pass.old.seat.me.1 ≡ (0, hand) ∷ [])) }
-        ensures own { (pass.new.seat.table_id ≡ pass.old.seat.table_id) × (pass.new.seat.id ≡ pass.old.seat.id) }
-        ensures moved { (pass.old.seat.me.1 ≡ (0, result) ∷ []) × (pass.new.seat.me ≡ (pass.old.seat.me.0, (0, value) ∷ [])) }
-    {
-        self.table
-            .shared
-            .exchange(&mut pass.seat, slot as usize, value)
     }
 }

@@ -21,6 +21,7 @@ pub mod make;
 mod plays;
 pub mod runs;
 pub mod serving;
+pub mod slots;
 #[cfg(test)]
 mod tests;
 pub mod turn;

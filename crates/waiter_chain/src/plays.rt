@@ -1,7 +1,7 @@
 //! The rule of a chain's table, and what each step tells.
 ghost use Rattle.std.specs.Prelude.{List};
 ghost use Rattle.waiter_chain.specs.Chains.{Lawful};
-ghost use Rattle.waiter_chain.specs.Steps.{first_view, cut_left, cut_right, joined, spent, tried, cleared, readied, swapped, posting, linking, polled, polled_job, holding, freed, took, handed, looked, counted, kind_seen, link_seen, job_done, rested};
+ghost use Rattle.waiter_chain.specs.Steps.{first_view, cut_left, cut_right, joined, spent, tried, cleared, readied, swapped, posting, linking, polled, holding, freed, took, handed, looked, counted, kind_seen, link_seen, job_done, rested};
 
 use crate::freight::Freight;
 use crate::view::{Opening, View};
@@ -30,15 +30,21 @@ impl<P> Known<P> for Brand {
     ghost known = { λ _. Unit {0} };
 }
 
-/// The jobs that an owner ran for itself, each with its answer.
+/// The jobs that an owner ran for itself, each with its answer, and how many of them it pays for.
 pub trait Ran<P> {
+    ghost use Rattle.std.specs.Prelude.{ℕ};
+
     ghost ran: { List (P × P) };
+
+    ghost count: { ℕ };
 }
 
 impl<P> Ran<P> for Brand {
     ghost use Rattle.std.specs.Prelude.{[]};
 
     ghost ran = { [] };
+
+    ghost count = { 0 };
 }
 
 /// How many nodes and how much of the quota a split gives away.
@@ -121,7 +127,7 @@ pub(crate) struct Free<M> {
 }
 
 impl<P, M: Ran<P>> Play<Option<P>, View<P>> for Free<M> {
-    ghost then = { freed M.ran };
+    ghost then = { freed M.count M.ran };
 }
 
 pub(crate) struct Take;
@@ -135,7 +141,7 @@ pub(crate) struct Grant<M> {
 }
 
 impl<P, M: Ran<P>> Play<Option<P>, View<P>> for Grant<M> {
-    ghost then = { handed M.ran };
+    ghost then = { handed M.count M.ran };
 }
 
 pub(crate) struct Look;
@@ -156,14 +162,6 @@ pub(crate) struct Link;
 
 impl<P> Play<Option<P>, View<P>> for Link {
     ghost then = { linking };
-}
-
-pub(crate) struct PollJob<M> {
-    known: PhantomData<M>,
-}
-
-impl<P, M: Known<P>> Play<Option<P>, View<P>> for PollJob<M> {
-    ghost then = { polled_job M.known };
 }
 
 pub(crate) struct Hold;
@@ -191,7 +189,7 @@ pub(crate) struct Serve<M> {
 }
 
 impl<P, M: Ran<P>> Play<Option<P>, View<P>> for Serve<M> {
-    ghost then = { job_done M.ran };
+    ghost then = { job_done M.count M.ran };
 }
 
 pub(crate) struct Rest;

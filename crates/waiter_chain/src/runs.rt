@@ -1,5 +1,5 @@
 //! The jobs that an owner runs for itself in one ownership.
-ghost use Rattle.std.specs.Prelude.{◌≡◌, ◌+◌, ◌<◌, ◌^◌, List, [], ◌∷◌, ◌++◌, length};
+ghost use Rattle.std.specs.Prelude.{◌≡◌, ◌+◌, ◌<◌, ◌≤◌, ◌^◌, List, [], ◌∷◌, ◌++◌, length};
 ghost use Rattle.std.specs.Borrow.{ftrue};
 
 use std::marker::{Model, PhantomData};
@@ -36,19 +36,19 @@ impl<P> RunLog<P> {
     }
 }
 
-/// The jobs that an owner has run for itself in its present ownership: how many, and for the proofs which, each with its
-/// answer.
+/// The jobs that an owner has run for itself in its present ownership: for the proofs which, each with its answer, and
+/// how many of them it pays for as the ownership ends. A job that it had posted was paid for as it was posted.
 #[derive(Drop)]
 pub struct OwnRuns<P> {
     pub(crate) count: u64,
     pub log: RunLog<P>,
-    ghost counted: { count ≡ length log.items },
+    ghost counted: { count ≤ length log.items },
 }
 
 impl<P> OwnRuns<P> {
     /// No job has run.
     pub fn new() -> OwnRuns<P>
-        ensures { result.log.items ≡ [] }
+        ensures { (result.log.items ≡ []) × (result.count ≡ 0) }
     {
         OwnRuns {
             count: 0,
@@ -56,19 +56,32 @@ impl<P> OwnRuns<P> {
         }
     }
 
+    /// How many of them are to be paid for.
     pub fn count(&self) -> u64
-        ensures { result ≡ length self.now.log.items }
+        ensures { result ≡ self.now.count }
     {
         self.count
     }
 
-    /// One job more, with its answer.
+    /// One job more, with its answer, which the owner had not posted.
     pub fn add(&mut self, job: &Snapshot<P>, answer: &Snapshot<P>)
-        requires room { length self.old.log.items + 1 < 2 ^ 64 }
+        requires room { self.old.count + 1 < 2 ^ 64 }
         ensures added { self.new.log.items ≡ self.old.log.items ++ (job.now.value, answer.now.value) ∷ [] }
+        ensures counted { self.new.count ≡ self.old.count + 1 }
     {
         *self = OwnRuns {
             count: self.count + 1,
+            log: self.log.and(job, answer),
+        };
+    }
+
+    /// The job that the owner had posted, with its answer.
+    pub fn add_posted(&mut self, job: &Snapshot<P>, answer: &Snapshot<P>)
+        ensures added { self.new.log.items ≡ self.old.log.items ++ (job.now.value, answer.now.value) ∷ [] }
+        ensures counted { self.new.count ≡ self.old.count }
+    {
+        *self = OwnRuns {
+            count: self.count,
             log: self.log.and(job, answer),
         };
     }

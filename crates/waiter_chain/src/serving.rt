@@ -1,18 +1,17 @@
 //! What an owner does for the next node, and what a node with a job finds.
 ghost use Rattle.std.specs.Prelude.{◌≡◌, ◌≢◌, ℕ, ◌+◌, ◌-◌, ◌*◌, ◌^◌, ◌<◌, ◌≤◌, [], ◌∷◌, ◌++◌, true, false, length, Some, None};
-ghost use Rattle.atomic_table.specs.Table.{rest, turned};
 ghost use Rattle.waiter_chain.specs.Goods.{Goods};
 ghost use Rattle.waiter_chain.specs.Steps.{entry, moved};
-ghost use Rattle.waiter_chain.specs.Calls.{IsIdle, HasTurn, PolledJobAs, KindSeen, LinkSeen, MayServe, Served, Rested};
+ghost use Rattle.waiter_chain.specs.Calls.{IsIdle, HasTurn, KindSeen, LinkSeen, MayServe, Served, Rested};
 ghost use Rattle.waiter_chain.specs.declared.view.Ownership.{Ownership};
 ghost use Rattle.waiter_chain.specs.declared.view.Event.TheVariants as event;
-ghost use Rattle.waiter_chain.specs.declared.view.Stage.TheVariants.{Behind, Done, Holding, Owns};
+ghost use Rattle.waiter_chain.specs.declared.view.Stage.TheVariants.{Done, Holding, Owns};
 
 use crate::chain::{Chain, ChainPass};
 use crate::freight::Freight;
-use crate::plays::{Hold, KindOf, Known, LinkOf, PollJob, Ran, Rest, Serve};
+use crate::plays::{Hold, KindOf, Known, LinkOf, Ran, Rest, Serve};
 use crate::runs::OwnRuns;
-use crate::turn::{Kind, Polled, Turn};
+use crate::turn::{Kind, Turn};
 use std::marker::Brand;
 
 impl<P: Freight> Chain<P> {
@@ -25,38 +24,6 @@ impl<P: Freight> Chain<P> {
     {
         let status = 1 + 2 * pass.number as usize;
         self.table.shared.load::<Hold>(&mut pass.seat, status);
-    }
-
-    fn poll_job_as<M: Known<P>>(&self, pass: &mut ChainPass<P>) -> Polled
-        requires own { pass.old.seat.table_id ≡ self.now.table.shared.table_id }
-        requires behind { (job : P) × (pass.old.seat.me.0.stage ≡ Behind pass.old.behind (Some job)) × (pass.old.seat.me.1 ≡ []) }
-        requires known { (g : Goods P) → P.rule self.now.table.shared.key g → M.known g }
-        ensures own { (pass.new.seat.table_id ≡ pass.old.seat.table_id) × (pass.new.seat.id ≡ pass.old.seat.id) × (pass.new.behind ≡ pass.old.behind) }
-        ensures answer { (job : P) → pass.old.seat.me.0.stage ≡ Behind pass.old.behind (Some job) → PolledJobAs M.known self.now.table.shared.table_id.slots pass.old.behind job pass.old.seat.me pass.new.seat.me result }
-    {
-        let status = 1 + 2 * pass.number as usize;
-        let word = self.table.shared.load::<PollJob<M>>(&mut pass.seat, status);
-        if word < 3 {
-            Polled::Still { word }
-        } else if word == 3 {
-            Polled::Done
-        } else {
-            Polled::Owner(Turn {
-                first: pass.behind,
-                end: word - 4,
-                mark: 1,
-            })
-        }
-    }
-
-    /// One load of its own status by a pass that has posted a job: 2 is `Still`, 3 is `Done`, 4 and more is `Owner`.
-    pub fn poll_job(&self, pass: &mut ChainPass<P>) -> Polled
-        requires own { pass.old.seat.table_id ≡ self.now.table.shared.table_id }
-        requires behind { (job : P) × (pass.old.seat.me.0.stage ≡ Behind pass.old.behind (Some job)) × (pass.old.seat.me.1 ≡ []) }
-        ensures own { (pass.new.seat.table_id ≡ pass.old.seat.table_id) × (pass.new.seat.id ≡ pass.old.seat.id) × (pass.new.behind ≡ pass.old.behind) }
-        ensures answer { (job : P) → pass.old.seat.me.0.stage ≡ Behind pass.old.behind (Some job) → PolledJobAs (P.rule self.now.table.shared.key) self.now.table.shared.table_id.slots pass.old.behind job pass.old.seat.me pass.new.seat.me result }
-    {
-        self.poll_job_as::<Brand>(pass)
     }
 
     /// One load of the next node's status: how that node waits.
@@ -84,8 +51,13 @@ impl<P: Freight> Chain<P> {
         ensures own { (pass.new.seat.table_id ≡ pass.old.seat.table_id) × (pass.new.seat.id ≡ pass.old.seat.id) }
         ensures link { LinkSeen M.known (turn.now.first - 2) pass.old.seat.me pass.new.seat.me result }
     {
-        let link = 2 + 2 * (turn.first - 2) as usize;
-        self.table.shared.load::<LinkOf<M>>(&mut pass.seat, link)
+        let place = 2 + 2 * (turn.first - 2) as usize;
+        let link = self.table.shared.load::<LinkOf<M>>(&mut pass.seat, place);
+        if link != 0 {
+            // The two slots go behind the others.
+            pass.turn_by(2);
+        }
+        link
     }
 
     /// One load of the link of the next node, which was seen to wait with a job. Where it is not 0, that node's job slot
@@ -109,13 +81,15 @@ impl<P: Freight> Chain<P> {
         runs: &OwnRuns<P>,
     ) -> Turn
         requires own { pass.old.seat.table_id ≡ self.now.table.shared.table_id }
-        requires serves { MayServe P.relates self.now.table.shared.table_id.slots M.ran turn link pass.old.seat.me }
-        requires told { M.ran ≡ runs.now.log.items }
+        requires serves { MayServe P.relates self.now.table.shared.table_id.slots M.count M.ran turn link pass.old.seat.me }
+        requires told { (M.ran ≡ runs.now.log.items) × (M.count ≡ runs.now.count) }
         ensures own { (pass.new.seat.table_id ≡ pass.old.seat.table_id) × (pass.new.seat.id ≡ pass.old.seat.id) }
-        ensures served { Served self.now.table.shared.table_id.slots M.ran turn link pass.old.seat.me pass.new.seat.me result }
+        ensures served { Served self.now.table.shared.table_id.slots M.count M.ran turn link pass.old.seat.me pass.new.seat.me result }
     {
         let Turn { first, end, mark } = turn;
         let status = 1 + 2 * (first - 2) as usize;
+        // The two slots of that node come to the front, to be given back.
+        pass.turn_by(10);
         self.table
             .shared
             .store::<Serve<M>>(&mut pass.seat, status, 3);
@@ -129,7 +103,7 @@ impl<P: Freight> Chain<P> {
 
     /// One store of 3 into the status of the next node, whose job has run: its answer lies in its answer slot, and what
     /// the job made of the value is in the owner's hand. The jobs that the owner has run for itself before enter its own
-    /// list here, and its quota falls by their number.
+    /// list here, and its quota falls by the number of those that it had not posted.
     pub fn step_over(
         &self,
         pass: &mut ChainPass<P>,
@@ -138,9 +112,9 @@ impl<P: Freight> Chain<P> {
         runs: &OwnRuns<P>,
     ) -> Turn
         requires own { pass.old.seat.table_id ≡ self.now.table.shared.table_id }
-        requires serves { MayServe P.relates self.now.table.shared.table_id.slots runs.now.log.items turn link pass.old.seat.me }
+        requires serves { MayServe P.relates self.now.table.shared.table_id.slots runs.now.count runs.now.log.items turn link pass.old.seat.me }
         ensures own { (pass.new.seat.table_id ≡ pass.old.seat.table_id) × (pass.new.seat.id ≡ pass.old.seat.id) }
-        ensures served { Served self.now.table.shared.table_id.slots runs.now.log.items turn link pass.old.seat.me pass.new.seat.me result }
+        ensures served { Served self.now.table.shared.table_id.slots runs.now.count runs.now.log.items turn link pass.old.seat.me pass.new.seat.me result }
     {
         self.serve_as::<Brand>(pass, turn, link, runs)
     }
@@ -154,27 +128,5 @@ impl<P: Freight> Chain<P> {
     {
         let status = 1 + 2 * pass.number as usize;
         self.table.shared.store::<Rest>(&mut pass.seat, status, 0);
-    }
-
-    /// A plain read and write of the slot at the head of the pass's hand. It is no step on a word.
-    pub fn move_held(&self, pass: &mut ChainPass<P>, slot: u64, value: Option<P>) -> Option<P>
-        requires own { pass.old.seat.table_id ≡ self.now.table.shared.table_id }
-        requires held { (hand : _) × (pass.old.seat.me.1 ≡ (slot, hand) ∷ rest pass.old.seat.me.1) }
-        ensures own { (pass.new.seat.table_id ≡ pass.old.seat.table_id) × (pass.new.seat.id ≡ pass.old.seat.id) × (pass.new.behind ≡ pass.old.behind) }
-        ensures moved { (pass.old.seat.me.1 ≡ (slot, result) ∷ rest pass.old.seat.me.1) × (pass.new.seat.me ≡ (pass.old.seat.me.0, (slot, value) ∷ rest pass.old.seat.me.1)) }
-    {
-        self.table
-            .shared
-            .exchange(&mut pass.seat, slot as usize, value)
-    }
-}
-
-impl<P> ChainPass<P> {
-    /// The slot at the head of the pass's hand goes behind the others.
-    pub fn turn_held(&mut self)
-        ensures own { (self.new.seat.table_id ≡ self.old.seat.table_id) × (self.new.seat.id ≡ self.old.seat.id) × (self.new.behind ≡ self.old.behind) }
-        ensures turned { self.new.seat.me ≡ (self.old.seat.me.0, turned self.old.seat.me.1) }
-    {
-        self.seat.turn();
     }
 }

@@ -1,7 +1,9 @@
-use Rattle.std.proofs.Common.{arith, ap, ◌∙◌, sym, inl, inr}
-use Rattle.waiter_chain.proofs.Frees.{looks, frees}
+use Rattle.std.proofs.Common.{◌≡◌, ◌∷◌, Some, arith, refl, ap, ◌∙◌, sym, subst, inl, inr}
+use Rattle.atomic_table.specs.Table.{rest}
+use Rattle.waiter_chain.proofs.Frees.{looks}
+use Rattle.waiter_chain.proofs.Endings.{frees-any}
 use Rattle.waiter_chain.proofs.Passes.{owns_at}
-use Rattle.waiter_chain.specs.Steps.{SeatState, passed, entry, moved}
+use Rattle.waiter_chain.specs.Steps.{SeatState, OwnHand, passed, entry, moved}
 use Rattle.waiter_chain.specs.declared.view.Event.TheVariants as event
 use Rattle.waiter_chain.specs.declared.view.Stage.TheVariants.{Owns}
 use Rattle.waiter_chain.proofs.chain.Chain.free_as.Goals as goal
@@ -23,7 +25,8 @@ compare_exchange-requires g c =
     let l = (c.load.ensures.2 e.0 e.2).0 (c.if-load-mark.false ∙ sym a.3) in (
       c.load.ensures.0 ∙ c.requires.own,
       omega (arith, c.args.self.now.sized.0),
-      frees (g.P.Freight.rule o) o.nodes g.P.Freight.relates (g.P.Freight.ends o) _ _ c.load.new.seat.me e.0 g.M.Ran.ran e.1 _ (ap (λ z. z.0.stage) l) a.6 (a.1 ∙ c.requires.empty ∙ sym a.2) (sym a.3) (ap (λ z. z.1) l ∙ e.3) (omega (arith, e.4, ap (λ z. z.0.quota) l)) e.5,
+      frees-any (g.P.Freight.rule o) o.nodes g.P.Freight.relates (g.P.Freight.ends o) _ _ c.load.new.seat.me e.0 g.M.Ran.count g.M.Ran.ran e.1 (ap (λ z. z.0.stage) l) a.6.0 (omega (arith, e.4, ap (λ z. z.0.quota) l)) e.6 _ e.0.mine refl
+          (subst (λ (z : SeatState g.row.P.Denot). OwnHand e.0.mine z.0.number (rest z.1)) (sym l) a.6.1) (a.1 ∙ c.requires.empty ∙ sym a.2) (sym a.3) (subst (λ (z : SeatState g.row.P.Denot). z.1 ≡ (0, Some e.1) ∷ rest z.1) (sym l) e.3) e.5,
     )
 
 pub returns-else-compare_exchange-mark-clause-taken : goal.returns-else-compare_exchange-mark-clause-taken
