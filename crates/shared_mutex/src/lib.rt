@@ -11,6 +11,8 @@
 #[cfg(test)]
 mod beside_model;
 mod exclusive;
+#[cfg(test)]
+mod reader_in_a_slot;
 mod shared;
 #[cfg(test)]
 mod tests;

@@ -13,10 +13,14 @@ use std::process::Abort;
 use std::sync::Wait;
 use std::thread::{self, Threads};
 
-const ONE: u64 = 4294967296;
+pub(crate) const ONE: u64 = 4294967296;
 
 // A shared hold, which nobody is in the way of.
-fn shared<A: Abort>(rt: &A, hall: &Hall<NoCargo>, pass: &mut Pass<NoCargo>) -> SharedGuard
+pub(crate) fn shared<A: Abort>(
+    rt: &A,
+    hall: &Hall<NoCargo>,
+    pass: &mut Pass<NoCargo>,
+) -> SharedGuard
     requires pass { IsPassOf hall.now pass.old × (0 < (shape_of hall.now).locks) }
     requires away { standing (view pass.old) 0 ≡ Away }
     ensures pass { IsPassOf hall.now pass.new }
@@ -71,7 +75,7 @@ fn no_exclusive<A: Abort>(rt: &A, hall: &Hall<NoCargo>, pass: &mut Pass<NoCargo>
     }
 }
 
-fn word_is<A: Abort>(rt: &A, hall: &Hall<NoCargo>, pass: &mut Pass<NoCargo>, word: u64)
+pub(crate) fn word_is<A: Abort>(rt: &A, hall: &Hall<NoCargo>, pass: &mut Pass<NoCargo>, word: u64)
     requires pass { IsPassOf hall.now pass.old × (0 < (shape_of hall.now).locks) }
     ensures pass { IsPassOf hall.now pass.new }
     ensures same { standing (view pass.new) 0 ≡ standing (view pass.old) 0 }

@@ -103,13 +103,10 @@ fn begun<A: Abort>(
     requires pass { IsPassOf hall.now pass.old × (0 < (shape_of hall.now).locks) }
     requires upgrade { (guard.lock ≡ 0) × (standing (view pass.old) 0 ≡ Upgrade) }
     ensures pass { IsPassOf hall.now pass.new }
-    ensures announced { (result.lock ≡ 0) × (result.swept ≡ true) × (result.from_upgrade ≡ true) × (standing (view pass.new) 0 ≡ Announcing (shape_of hall.now).slots 0 true) }
+    ensures announced { (result.lock ≡ 0) × (result.swept ≡ false) × (result.from_upgrade ≡ true) × (standing (view pass.new) 0 ≡ Announcing 0 0 true) }
 {
     match begin_upgrade(hall, pass, guard) {
-        Ok(mut announced) => {
-            assert_eq!(rt; scan(hall, pass, &mut announced), 0);
-            announced
-        }
+        Ok(announced) => announced,
         Err(
             BeginRaced {
                 guard: UpgradeGuard { lock: _ },
@@ -118,6 +115,23 @@ fn begun<A: Abort>(
             },
         ) => rt.abort(),
     }
+}
+
+// A sweep that finds no token.
+fn swept<A: Abort>(
+    rt: &A,
+    hall: &Hall<NoCargo>,
+    pass: &mut Pass<NoCargo>,
+    announced: Announced,
+) -> Announced
+    requires pass { IsPassOf hall.now pass.old × (0 < (shape_of hall.now).locks) }
+    requires announced { (announced.lock ≡ 0) × (announced.swept ≡ false) × (announced.from_upgrade ≡ true) × (standing (view pass.old) 0 ≡ Announcing 0 0 true) }
+    ensures pass { IsPassOf hall.now pass.new }
+    ensures announced { (result.lock ≡ 0) × (result.swept ≡ true) × (result.from_upgrade ≡ true) × (standing (view pass.new) 0 ≡ Announcing (shape_of hall.now).slots 0 true) }
+{
+    let mut announced = announced;
+    assert_eq!(rt; scan(hall, pass, &mut announced), 0);
+    announced
 }
 
 fn finished<A: Abort>(
@@ -184,6 +198,7 @@ fn an_upgrade_beside_a_reader(rt: HostRuntime) {
         word_is(&rt, &hall, &mut second, ONE + 2);
         let announced = begun(&rt, &hall, &mut first, guard);
         word_is(&rt, &hall, &mut first, ONE + 6);
+        let announced = swept(&rt, &hall, &mut first, announced);
         let announced = not_finished(&rt, &hall, &mut first, announced, ONE + 6);
         let guard = retract_upgrade(&hall, &mut first, announced);
         word_is(&rt, &hall, &mut first, ONE + 3);
@@ -191,6 +206,7 @@ fn an_upgrade_beside_a_reader(rt: HostRuntime) {
         word_is(&rt, &hall, &mut second, 3);
         let announced = begun(&rt, &hall, &mut first, guard);
         word_is(&rt, &hall, &mut first, 6);
+        let announced = swept(&rt, &hall, &mut first, announced);
         let guard = finished(&rt, &hall, &mut first, announced);
         word_is(&rt, &hall, &mut first, 8);
         no_upgrade(&rt, &hall, &mut second, 8);
