@@ -1,6 +1,6 @@
 -- Lists of lists, kept as a vector of vectors.
-use Rattle.std.proofs.Common.{◌≡◌, ℕ, ◌+◌, ◌-◌, ◌<◌, ◌≤◌, ◌^◌, min, take, sum_by, arith, append-nil, length-append, List, [], ◌∷◌, ◌++◌, length, map, get_or, set, sym, ap, ◌∙◌, Vec}
-use Rattle.std.proofs.lemmas.List.{map-set, length-map, get_or-map, take_all}
+use Rattle.std.proofs.Common.{◌≡◌, ℕ, ◌+◌, ◌-◌, ◌<◌, ◌^◌, min, take, sum_by, arith, length-append, List, [], ◌∷◌, ◌++◌, length, map, get_or, set, sym, ap, ◌∙◌, Vec}
+use Rattle.std.proofs.lemmas.List.{map-set, length-map, get_or-map}
 use Rattle.std.proofs.lemmas.List.Sums.{sum_by-set}
 use Rattle.std.proofs.Math.Seq.{map-set_same, take-append_seam}
 use Rattle.std.specs.declared.alloc.Global.{Global}
@@ -42,6 +42,3 @@ count_more lists q new count some is had =
 -- the first six of some words
 pub six_front : (xs ys zs : List (List ℕ)) → length xs ≡ 6 → xs ++ ys ≡ zs → xs ≡ take 6 zs
 six_front xs ys zs len e = sym (ap (take 6) (sym e) ∙ ap (λ n. take n (xs ++ ys)) (sym len) ∙ take-append_seam xs ys)
-
-pub six_all : (xs zs : List (List ℕ)) → length xs ≤ 6 → xs ++ [] ≡ zs → xs ≡ take 6 zs
-six_all xs zs len e = sym (ap (take 6) (sym e ∙ append-nil xs) ∙ take_all 6 xs len)

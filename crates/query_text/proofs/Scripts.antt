@@ -1,13 +1,12 @@
 -- The lines of a script, one at a time and by six words.
-use Rattle.std.proofs.Common.{◌≡◌, ℕ, ◌+◌, ◌<◌, ◌==◌, not, Bool, true, false, cond, List, [], ◌∷◌, ◌++◌, length, take, drop, Option, Some, None, Result, Ok, Err, unwrap_or, refl, sym, ap, ◌∙◌, arith, codes, bytes_eq}
+use Rattle.std.proofs.Common.{◌≡◌, ℕ, ◌+◌, ◌<◌, ◌==◌, not, Bool, true, false, cond, List, [], ◌∷◌, ◌++◌, length, take, drop, Option, Some, None, Result, Ok, Err, unwrap_or, slice_index, refl, sym, ap, ◌∙◌, arith, codes, bytes_eq}
 use Rattle.std.proofs.lemmas.List.{take_all, length-take}
 use Rattle.query_rules.specs.declared.query.Cause.{Cause}
-use Rattle.query_rules.specs.declared.query.Cause.TheVariants.{BadByte, Spacing, Unknown, WordCount}
+use Rattle.query_rules.specs.declared.query.Cause.TheVariants.{MissingCells, Unknown, WordCount}
 use Rattle.query_rules.specs.declared.verb.Verb.{Verb}
 use Rattle.query_rules.specs.declared.verb.Verb.TheVariants.{Get, Len, Put, Del, Add, Cas, PutLen, Move, Both, TryGet, TryPut, GetBy, PutBy, Give, Take, Audit}
 use Rattle.query_rules.specs.Verbs.{verb_named, arity, query_of}
-use Rattle.query_rules.specs.Words.{words_of}
-use Rattle.query_rules.specs.Grammar.{Asked, first_cause, gives, numbers_in, word_at, spelled_line, with_query, caller_causes, caller_line, query_causes, query_line, named_line, later_words, later_line, later_lines, has_bad_byte, is_misspaced}
+use Rattle.query_rules.specs.Grammar.{Asked, first_cause, gives, numbers_in, word_at, with_query, cells_causes, cells_line, caller_causes, caller_line, query_causes, query_line, named_line, later_words, later_line, later_lines}
 
 -- six words show as much as all: no form has more than five
 taken_len : (words : List (List ℕ)) (n : ℕ) → n < 6 → (length (take 6 words) == n) ≡ (length words == n)
@@ -35,6 +34,25 @@ gives_first false cause o x e = absurd (cc)
 
 counted_wrong : {A : Type 0} (words : List (List ℕ)) (n : ℕ) (tests : List (Bool × Cause)) (x : A) → (length words == n) ≡ false → gives (first_cause ((not (length words == n), WordCount) ∷ tests)) x ≡ Err WordCount
 counted_wrong words n tests x e = gives_first (not (length words == n)) WordCount (first_cause tests) x (ap not e)
+
+-- line 1 is judged by its first word, and then by their number
+cells_wrong : {A : Type 0} (words : List (List ℕ)) (other : Bool) (tests : List (Bool × Cause)) (x : A) → (length words == 2) ≡ false
+    → gives (first_cause ((other, MissingCells) ∷ (not (length words == 2), WordCount) ∷ tests)) x ≡ cond other (Err MissingCells) (Err WordCount)
+cells_wrong words true tests x e = refl
+cells_wrong words false tests x e = gives_first (not (length words == 2)) WordCount (first_cause tests) x (ap not e)
+
+pub cells_same : (words : List (List ℕ)) → cells_line (take 6 words) ≡ cells_line words
+cells_same words = by_count (length words == 2) refl
+  where
+    wrong : (ws : List (List ℕ)) → (length ws == 2) ≡ false → cells_line ws ≡ cond (not (bytes_eq (word_at ws 0) (codes "cells"))) (Err MissingCells) (Err WordCount)
+    wrong ws e = cells_wrong ws (not (bytes_eq (word_at ws 0) (codes "cells"))) (drop 2 (cells_causes ws)) (record { cells = slice_index (unwrap_or (numbers_in (drop 1 ws)) []) 0; callers = [] }) e
+
+    by_count : (b : Bool) → (length words == 2) ≡ b → cells_line (take 6 words) ≡ cells_line words
+    by_count true e = ap cells_line (taken_whole words 2 (omega arith) e)
+    by_count false e =
+        wrong (take 6 words) (taken_len words 2 (omega arith) ∙ e)
+        ∙ ap (λ w. cond (not (bytes_eq w (codes "cells"))) (Err MissingCells) (Err WordCount)) (first_same words)
+        ∙ sym (wrong words e)
 
 caller_same : (s : Asked) (words : List (List ℕ)) → caller_line s (take 6 words) ≡ caller_line s words
 caller_same s words = count_first words 1 (omega arith) (caller_line s) WordCount (λ ws e. counted_wrong ws 1 (drop 1 (caller_causes s ws)) (record { cells = s.cells; callers = s.callers ++ [] ∷ [] }) e)
@@ -66,13 +84,6 @@ named_same s words None = ap (λ r. cond (bytes_eq (word_at (take 6 words) 0) (c
 
 pub later_same : (s : Asked) (words : List (List ℕ)) → later_words s (take 6 words) ≡ later_words s words
 later_same s words = ap (λ w. named_line s (take 6 words) (verb_named w)) (first_same words) ∙ named_same s words (verb_named (word_at words 0))
-
--- a line that passes the first two tests is judged by its words
-pub spelled_is : (says : List (List ℕ) → Result Asked Cause) (line : List ℕ) (r : Result Asked Cause) → has_bad_byte line ≡ false → is_misspaced (words_of line) ≡ false → r ≡ says (words_of line) → spelled_line says line ≡ r
-spelled_is says line r good spaced e =
-    ap (λ b. cond b (Err BadByte) (cond (is_misspaced (words_of line)) (Err Spacing) (says (words_of line)))) good
-    ∙ ap (λ b. cond b (Err Spacing) (says (words_of line))) spaced
-    ∙ sym e
 
 -- one line of the rest
 pub next_line : (s t : Asked) (n : ℕ) (all : List (List ℕ)) (line : List ℕ) (lines : List (List ℕ)) (whole : Result Asked (ℕ × Cause))

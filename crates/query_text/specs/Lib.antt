@@ -2,3 +2,4 @@ pub mod Counts
 pub mod Reads
 pub mod Refusals
 pub mod Spaced
+pub mod Spelling

@@ -83,6 +83,7 @@ fn reply_at(outcome: &Outcome, spot: &Spot) -> Reply
 #[tactic(auto, unfolding(query_rules::specs::Log::spot_line))]
 fn write_at<K: Sink>(
     sink: &mut K,
+    line: &mut Line,
     callers: &Callers,
     outcome: &Outcome,
     spot: &Spot,
@@ -94,6 +95,7 @@ fn write_at<K: Sink>(
     let query = query_at(callers, spot);
     write_answer(
         sink,
+        line,
         spot.caller,
         spot.index,
         query,
@@ -112,9 +114,10 @@ fn write_spots<K: Sink>(
     ensures bytes { Writes (K.written sink.old) (K.written sink.new) result (spots_text callers.now outcome.now order.now) }
     ensures cause { HasCause (K.faults sink.old) (K.faults sink.new) result }
 {
+    let mut line = Line::new(b"");
     let mut rest = order;
     while let [spot, after @ ..] = rest {
-        write_at(sink, callers, outcome, spot)?;
+        write_at(sink, &mut line, callers, outcome, spot)?;
         rest = after;
     }
     Ok(())
@@ -123,6 +126,7 @@ fn write_spots<K: Sink>(
 // Writes the line of a reply where it is a refusal.
 fn write_if_refused<K: Sink>(
     sink: &mut K,
+    line: &mut Line,
     caller: u64,
     index: u64,
     query: &Query,
@@ -132,7 +136,7 @@ fn write_if_refused<K: Sink>(
     ensures cause { HasCause (K.faults sink.old) (K.faults sink.new) result }
 {
     match reply {
-        Reply::Busy | Reply::Late { .. } => write_answer(sink, caller, index, query, reply),
+        Reply::Busy | Reply::Late { .. } => write_answer(sink, line, caller, index, query, reply),
         Reply::Placed { .. } | Reply::Job { .. } => Ok(()),
     }
 }
@@ -148,8 +152,16 @@ fn write_refused_of<K: Sink>(
     ensures bytes { Writes (K.written sink.old) (K.written sink.new) result (refused_from caller 0 queries.now replies.now) }
     ensures cause { HasCause (K.faults sink.old) (K.faults sink.new) result }
 {
+    let mut line = Line::new(b"");
     for index in 0..replies.len() {
-        write_if_refused(sink, caller, index as u64, &queries[index], replies[index])?;
+        write_if_refused(
+            sink,
+            &mut line,
+            caller,
+            index as u64,
+            &queries[index],
+            replies[index],
+        )?;
     }
     Ok(())
 }

@@ -37,6 +37,15 @@ impl Line {
         Line { bytes }
     }
 
+    // Makes it a line that begins with this word, in the place of what it was.
+    fn restart(&mut self, word: &[u8])
+        requires { length word.now ≤ 20 }
+        ensures { self.new ≡ word.now }
+    {
+        self.bytes.clear();
+        let _ = self.bytes.try_extend_from_slice(word);
+    }
+
     /// The bytes of the line so far.
     pub fn as_bytes(&self) -> &[u8]
         ensures { result.now ≡ self.now }
@@ -44,7 +53,8 @@ impl Line {
         &self.bytes
     }
 
-    /// Adds a word, behind a space.
+    /// Adds a word, behind a space. Where the word is known, its bytes are moved without a call.
+    #[inline(always)]
     pub fn word(&mut self, word: &[u8])
         requires { length self.old + length word.now < 254 }
         ensures line { self.new ≡ self.old ++ 32 ∷ word.now }
@@ -55,11 +65,18 @@ impl Line {
     }
 
     /// Adds a number, behind a space.
+    #[tactic(auto, using(crate::proofs::LogLines::digit_line))]
     pub fn number(&mut self, n: u64)
         requires { length self.old < 234 }
         ensures line { self.new ≡ self.old ++ 32 ∷ decimal n }
         ensures len { length self.new ≤ length self.old + 21 }
     {
+        // Cells and callers have mostly one digit.
+        if n < 10 {
+            self.bytes.push(b' ');
+            self.bytes.push(b'0' + n as u8);
+            return;
+        }
         let mut buffer = Buffer::new();
         self.word(buffer.format(n).as_bytes());
     }
@@ -75,6 +92,7 @@ impl Line {
     }
 
     // Adds numbers, each behind a space.
+    #[inline(always)]
     fn numbers(&mut self, numbers: &[u64])
         requires { length self.old + 21 * length numbers.now < 250 }
         ensures line { self.new ≡ self.old ++ spaced (map decimal numbers.now) }
@@ -88,6 +106,7 @@ impl Line {
     }
 
     // Adds a name and the numbers that follow it.
+    #[inline(always)]
     fn call(&mut self, name: &[u8], numbers: &[u64])
         requires { length self.old + length name.now + 21 * length numbers.now < 248 }
         ensures line { self.new ≡ self.old ++ spaced (name.now ∷ map decimal numbers.now) }
@@ -219,43 +238,52 @@ impl Line {
         }
     }
 
+    // Makes it a line that begins with a name and a number.
+    fn restart_at(&mut self, name: &[u8], n: u64)
+        requires { length name.now ≤ 20 }
+        ensures line { self.new ≡ name.now ++ 32 ∷ decimal n }
+        ensures len { length self.new ≤ length name.now + 21 }
+    {
+        self.restart(name);
+        self.number(n);
+    }
+
+    // Makes it a line that begins with the section of a reply, and where it stands there.
+    fn place(&mut self, reply: Reply)
+        ensures line { self.new ≡ placed_bytes reply }
+        ensures len { length self.new ≤ 24 }
+    {
+        match reply {
+            Reply::Placed { place, .. } => self.restart_at(b"map", place),
+            Reply::Busy | Reply::Late { .. } => self.restart(b"ref"),
+            Reply::Job { at, .. } => self.restart_at(b"job", at),
+        }
+    }
+
+    // Ends the line and writes it, as one piece.
+    fn end<K: Sink>(&mut self, sink: &mut K) -> Result<(), Failed>
+        requires { length self.old < 255 }
+        ensures bytes { Writes (K.written sink.old) (K.written sink.new) result (self.old ++ 10 ∷ []) }
+        ensures cause { HasCause (K.faults sink.old) (K.faults sink.new) result }
+    {
+        self.bytes.push(b'\n');
+        write_whole(sink, &self.bytes)
+    }
+
     /// Writes the line and its end, as one piece.
     pub fn write<K: Sink>(mut self, sink: &mut K) -> Result<(), Failed>
         requires { length self < 255 }
         ensures bytes { Writes (K.written sink.old) (K.written sink.new) result (self ++ 10 ∷ []) }
         ensures cause { HasCause (K.faults sink.old) (K.faults sink.new) result }
     {
-        self.bytes.push(b'\n');
-        write_whole(sink, &self.bytes)
+        self.end(sink)
     }
 }
 
-// A line that begins with the section of a reply, and where it stands there.
-fn placed(reply: Reply) -> Line
-    ensures line { result ≡ placed_bytes reply }
-    ensures len { length result ≤ 24 }
-{
-    match reply {
-        Reply::Placed { place, .. } => headed(b"map", place),
-        Reply::Busy | Reply::Late { .. } => Line::new(b"ref"),
-        Reply::Job { at, .. } => headed(b"job", at),
-    }
-}
-
-// A line that begins with a name and a number.
-fn headed(name: &[u8], n: u64) -> Line
-    requires { length name.now ≤ 20 }
-    ensures line { result ≡ name.now ++ 32 ∷ decimal n }
-    ensures len { length result ≤ length name.now + 21 }
-{
-    let mut line = Line::new(name);
-    line.number(n);
-    line
-}
-
-/// Writes the line of one reply.
+/// Writes the line of one reply. Its bytes are gathered in `line`, in the place of what stood there.
 pub fn write_answer<K: Sink>(
     sink: &mut K,
+    line: &mut Line,
     caller: u64,
     index: u64,
     query: &Query,
@@ -264,13 +292,13 @@ pub fn write_answer<K: Sink>(
     ensures bytes { Writes (K.written sink.old) (K.written sink.new) result (answer_line caller index query.now reply) }
     ensures cause { HasCause (K.faults sink.old) (K.faults sink.new) result }
 {
-    let mut line = placed(reply);
+    line.place(reply);
     line.number(caller);
     line.number(index);
     line.query(query);
     line.word(b"=");
     line.reply(reply);
-    line.write(sink)
+    line.end(sink)
 }
 
 /// Writes a line of a name and a number.
@@ -280,5 +308,7 @@ pub fn write_number<K: Sink>(sink: &mut K, name: &[u8], n: u64) -> Result<(), Fa
     ensures bytes { Writes (K.written sink.old) (K.written sink.new) result (number_line name.now n) }
     ensures cause { HasCause (K.faults sink.old) (K.faults sink.new) result }
 {
-    headed(name, n).write(sink)
+    let mut line = Line::new(name);
+    line.number(n);
+    line.write(sink)
 }

@@ -7,7 +7,7 @@ ghost use Rattle.query_text.specs.Reads.{Reads, Says};
 
 use crate::Callers;
 use crate::number::numbers;
-use crate::words::{first_words, has_bad_byte, is_misspaced};
+use crate::words::spelled_words;
 use ql_base::NoMemory;
 use query_rules::{Cause, Verb};
 
@@ -30,13 +30,10 @@ impl From<NoMemory> for LineFault {
 pub fn first_line(line: &[u8]) -> Result<u64, Cause>
     ensures { Says (λ cells. record { cells = cells; callers = [] }) result (grammar.spelled_line grammar.cells_line line.now) }
 {
-    if has_bad_byte(line) {
-        return Err(Cause::BadByte);
+    match spelled_words(line) {
+        Ok(words) => cells_line(&words),
+        Err(cause) => Err(cause),
     }
-    if is_misspaced(line) {
-        return Err(Cause::Spacing);
-    }
-    cells_line(&first_words(line))
 }
 
 fn cells_line(words: &[&[u8]]) -> Result<u64, Cause>
@@ -127,11 +124,8 @@ pub fn later_line(cells: u64, callers: &mut Callers, line: &[u8]) -> Result<(), 
     ensures { Reads (λ _. record { cells = cells; callers = callers.new }) result
         (grammar.later_line (record { cells = cells; callers = callers.old }) line.now) }
 {
-    if has_bad_byte(line) {
-        return Err(LineFault::Bad(Cause::BadByte));
+    match spelled_words(line) {
+        Ok(words) => later_words(cells, callers, &words),
+        Err(cause) => Err(LineFault::Bad(cause)),
     }
-    if is_misspaced(line) {
-        return Err(LineFault::Bad(Cause::Spacing));
-    }
-    later_words(cells, callers, &first_words(line))
 }

@@ -6,6 +6,6 @@ use Rattle.query_text.proofs.log_line.write_answer.Goals as goal
 pub returns-clause-bytes : goal.returns-clause-bytes
 returns-clause-bytes g c =
     let same = answer_made c.args.caller c.args.index c.args.query.now c.args.reply _ _ _ _ _ _
-    c.placed-line.ensures.line c.number.ensures.line c.number-2.ensures.line c.query.ensures.line c.word.ensures.line c.reply.ensures.line in
-    let P : List ℕ → Type 0 = λ t. Writes (g.K.Sink.written c.args.sink.now) (g.K.Sink.written c.write.new.sink) c.write.result t in
-    subst P same c.write.ensures.bytes
+    c.place.ensures.line c.number.ensures.line c.number-2.ensures.line c.query.ensures.line c.word.ensures.line c.reply.ensures.line in
+    let P : List ℕ → Type 0 = λ t. Writes (g.K.Sink.written c.args.sink.now) (g.K.Sink.written c.end.new.sink) c.end.result t in
+    subst P same c.end.ensures.bytes
