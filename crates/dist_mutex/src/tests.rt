@@ -1,6 +1,9 @@
 //! The distributed lock at work: who owns it in which order, jobs of an account, and waits with a deadline.
-ghost use Rattle.std.specs.Prelude.{◌≡◌, ◌+◌, ◌≤◌, length, []};
+ghost use Rattle.std.specs.Prelude.{◌≡◌, ◌+◌, ◌≤◌, length, [], None};
+ghost use Rattle.waiter_chain.specs.Calls.{IsBehind, PolledAs};
+ghost use Rattle.combine_job.specs.Parcels.{Ruled};
 ghost use Rattle.dist_mutex.specs.Owners.{IsFree};
+ghost use Rattle.dist_mutex.specs.Passes.{opening_of, slots_of, dist_state, runs_of, IsDistPassOf, IsSamePass};
 
 use crate::mutex::DistMutex;
 use crate::owner::Next;
@@ -87,6 +90,18 @@ type Bank = DistMutex<Account, Order>;
 
 type Clerk = DistPass<Account, Order>;
 
+// A pass that waits with no job loads its own status.
+fn poll_plain<V: Room, J: Job<V>>(bank: &DistMutex<V, J>, clerk: &mut DistPass<V, J>) -> Polled
+    requires own { IsDistPassOf bank.now clerk.old }
+    requires runs { runs_of clerk.old ≡ [] }
+    requires behind { IsBehind clerk.old.pass.behind (dist_state clerk.old) }
+    ensures own { IsSamePass clerk.old clerk.new × (clerk.new.pass.behind ≡ clerk.old.pass.behind) }
+    ensures runs { runs_of clerk.new ≡ [] }
+    ensures answer { PolledAs (Ruled V.rooms J.means J.is_ready (opening_of bank.now)) (slots_of bank.now) clerk.old.pass.behind None (dist_state clerk.old) (dist_state clerk.new) result }
+{
+    bank.chain.poll(&mut clerk.pass)
+}
+
 fn an_account(jobs: u64) -> Account
     ensures { (result.left ≡ jobs) × (result.balance ≡ 0) }
 {
@@ -122,7 +137,7 @@ fn waiters_get_the_lock_in_turn(rt: HostRuntime) -> Result<(), Fail> {
         Entered::Owner(_turn) => panic!(rt; "node 3 owns the lock"),
         Entered::Behind => {}
     }
-    match bank.chain.poll(&mut two.pass) {
+    match poll_plain(&bank, &mut two) {
         Polled::Owner(_turn) => panic!(rt; "node 2 was granted"),
         Polled::Done => panic!(rt; "node 2 has no job"),
         Polled::Still { word } => assert!(rt; word == 1),
@@ -137,7 +152,7 @@ fn waiters_get_the_lock_in_turn(rt: HostRuntime) -> Result<(), Fail> {
         Ok(_owner) => panic!(rt; "two owners"),
         Err(busy) => assert!(rt; busy.word == 1),
     }
-    match bank.chain.poll(&mut three.pass) {
+    match poll_plain(&bank, &mut three) {
         Polled::Still { word: _ } => panic!(rt; "node 3 still waits"),
         Polled::Done => panic!(rt; "node 3 has no job"),
         Polled::Owner(turn) => {
@@ -148,7 +163,7 @@ fn waiters_get_the_lock_in_turn(rt: HostRuntime) -> Result<(), Fail> {
             }
         }
     }
-    match bank.chain.poll(&mut two.pass) {
+    match poll_plain(&bank, &mut two) {
         Polled::Still { word: _ } => panic!(rt; "node 2 still waits"),
         Polled::Done => panic!(rt; "node 2 has no job"),
         Polled::Owner(turn) => {
@@ -159,7 +174,7 @@ fn waiters_get_the_lock_in_turn(rt: HostRuntime) -> Result<(), Fail> {
             }
         }
     }
-    match bank.chain.poll(&mut one.pass) {
+    match poll_plain(&bank, &mut one) {
         Polled::Still { word: _ } => panic!(rt; "node 1 still waits"),
         Polled::Done => panic!(rt; "node 1 has no job"),
         Polled::Owner(turn) => {

@@ -1,6 +1,6 @@
 //! The words of a chain of four nodes, step by step.
-ghost use Rattle.std.specs.Prelude.{◌≡◌};
-ghost use Rattle.waiter_chain.specs.Calls.{Won, IsIdle};
+ghost use Rattle.std.specs.Prelude.{◌≡◌, None};
+ghost use Rattle.waiter_chain.specs.Calls.{Won, IsIdle, IsBehind, PolledAs};
 ghost use Rattle.waiter_chain.specs.declared.view.Entry.{Entry};
 
 use crate::chain::{Chain, ChainPass};
@@ -55,6 +55,16 @@ fn pass_on(chain: &Chain<Mark>, pass: &mut ChainPass<Mark>, turn: Turn) -> Optio
     }
 }
 
+// A pass that waits with no job loads its own status.
+fn poll_plain(chain: &Chain<Mark>, pass: &mut ChainPass<Mark>) -> Polled
+    requires own { pass.old.seat.table_id ≡ chain.now.table.shared.table_id }
+    requires behind { IsBehind pass.old.behind pass.old.seat.me }
+    ensures own { (pass.new.seat.table_id ≡ pass.old.seat.table_id) × (pass.new.seat.id ≡ pass.old.seat.id) × (pass.new.behind ≡ pass.old.behind) }
+    ensures answer { PolledAs (λ g. Unit {0}) chain.now.table.shared.table_id.slots pass.old.behind None pass.old.seat.me pass.new.seat.me result }
+{
+    chain.poll(pass)
+}
+
 fn central(chain: &Chain<Mark>) -> u64 {
     chain.table.shared.peek(0)
 }
@@ -94,17 +104,17 @@ fn waiters_are_granted_in_turn(rt: HostRuntime) -> Result<(), Fail> {
         Entered::Owner(_turn) => panic!(rt; "node 3 owns the lock"),
         Entered::Behind => assert!(rt; central(&chain) == 5),
     }
-    match chain.poll(&mut one) {
+    match poll_plain(&chain, &mut one) {
         Polled::Owner(_turn) => panic!(rt; "node 1 was granted"),
         Polled::Done => panic!(rt; "node 1 has no job"),
         Polled::Still { word } => assert!(rt; word == 1),
     }
-    match chain.poll(&mut two) {
+    match poll_plain(&chain, &mut two) {
         Polled::Owner(_turn) => panic!(rt; "node 2 was granted"),
         Polled::Done => panic!(rt; "node 2 has no job"),
         Polled::Still { word } => assert!(rt; word == 1),
     }
-    match chain.poll(&mut three) {
+    match poll_plain(&chain, &mut three) {
         Polled::Owner(_turn) => panic!(rt; "node 3 was granted"),
         Polled::Done => panic!(rt; "node 3 has no job"),
         Polled::Still { word } => assert!(rt; word == 1),
@@ -113,17 +123,17 @@ fn waiters_are_granted_in_turn(rt: HostRuntime) -> Result<(), Fail> {
     // Node 0 takes the chain and makes node 3 the owner: its status is 4 and the end of its chain, 1.
     assert!(rt; pass_on(&chain, &mut zero, turn) == Some(3));
     assert!(rt; chain.table.shared.peek(7) == 5 && central(&chain) == 1);
-    match chain.poll(&mut three) {
+    match poll_plain(&chain, &mut three) {
         Polled::Still { word: _ } => panic!(rt; "node 3 still waits"),
         Polled::Done => panic!(rt; "node 3 has no job"),
         Polled::Owner(turn) => assert!(rt; pass_on(&chain, &mut three, turn) == Some(2)),
     }
-    match chain.poll(&mut two) {
+    match poll_plain(&chain, &mut two) {
         Polled::Still { word: _ } => panic!(rt; "node 2 still waits"),
         Polled::Done => panic!(rt; "node 2 has no job"),
         Polled::Owner(turn) => assert!(rt; pass_on(&chain, &mut two, turn) == Some(1)),
     }
-    match chain.poll(&mut one) {
+    match poll_plain(&chain, &mut one) {
         Polled::Still { word: _ } => panic!(rt; "node 1 still waits"),
         Polled::Done => panic!(rt; "node 1 has no job"),
         Polled::Owner(turn) => assert!(rt; pass_on(&chain, &mut one, turn).is_none()),
