@@ -2,7 +2,7 @@
 use Rattle.std.proofs.Common.{◌≡◌, ℕ, ◌+◌, ◌*◌, ◌-◌, ◌%◌, ◌<◌, ◌≤◌, Bool, true, false, cond, List, [], ◌∷◌, ◌++◌, length, map, take, drop, get_or, refl, sym, ap, ◌∙◌, subst, append_assoc, append-nil, arith, zip, Option, inl, inr, MatchBool}
 use Rattle.std.proofs.Math.Nat.{eq-or-lt_of_le}
 use Rattle.std.specs.List.{AllByRecursion, AllZip}
-use Rattle.std.proofs.lemmas.List.{take_rest, map-append}
+use Rattle.std.proofs.lemmas.List.{take_rest}
 use Rattle.query_rules.specs.declared.query.Query.{Query}
 use Rattle.query_rules.specs.declared.query.Said.{Said}
 use Rattle.query_rules.specs.declared.query.Reply.{Reply}
@@ -10,6 +10,8 @@ use Rattle.query_rules.specs.declared.query.Reply.TheVariants.{Placed, Busy, Lat
 use Rattle.query_rules.specs.Maps.{no_entries, is_write}
 use Rattle.query_rules.specs.Ledger.{no_accounts, IsLegalLedger}
 use Rattle.query_rules.specs.History.{place_of, Precedes, InOrder, IsKindFor, AnswersEachOnce, IsLegal, IsHistory}
+use Rattle.query_rules.specs.Licence.{IsLicensed}
+use Rattle.query_rules.specs.Numbers.{IsReply}
 use Rattle.waiter_chain.specs.declared.view.Opening.{Opening}
 use Rattle.waiter_chain.specs.declared.view.View.{View as ChainView}
 use Rattle.combine_job.specs.declared.parcel.Kept.{Kept}
@@ -117,6 +119,16 @@ order_alone seen number index own (q ∷ queries) (Job at result ∷ replies) la
     let x : LedgerRun = answer_for number index r.0 at result in
     (answer_precedes number index own r.0 at result queries replies later r.3, order_alone seen number (index + 1) (own ++ x ∷ []) queries replies later h r.3)
 
+-- all have a place or a position, so none needs a licence
+licensed_alone : (callers : List (List Query)) (caller seen : ℕ) (queries : List Query) (replies : List Reply) → PlacedAlone seen queries replies → AllZip (IsLicensed callers caller) queries replies
+licensed_alone callers caller seen [] [] h = tt
+licensed_alone callers caller seen [] (reply ∷ replies) h = absurd h
+licensed_alone callers caller seen (q ∷ queries) [] h = absurd h
+licensed_alone callers caller seen (q ∷ queries) (Placed place said ∷ replies) h = (tt, licensed_alone callers caller (seen_after h.0 said) queries replies h.3)
+licensed_alone callers caller seen (q ∷ queries) (Busy ∷ replies) h = absurd h
+licensed_alone callers caller seen (q ∷ queries) (Late now ∷ replies) h = absurd h
+licensed_alone callers caller seen (q ∷ queries) (Job at result ∷ replies) h = (tt, licensed_alone callers caller seen queries replies h)
+
 -- the replies behind a closed hall and a closed lock are one history of the one caller
 pub history_alone : (rows room number : ℕ) (queries : List Query) (replies : List Reply) (first r : Part) (o : Opening LedgerParcel) (before later : List LedgerRun) (out : Option (Kept LedgerView)) → first.seen ≡ 0 → first.told ≡ [] → before ≡ []
     → o.first.value ≡ Value record { value = record { rows = rows; room = room; entries = [] }; ran = 0 }
@@ -131,6 +143,7 @@ history_alone rows room number queries replies first r o before later out seen t
       once = (record { each = h.kinds; order = order_alone 0 number 0 [] queries replies later placed answered }, tt);
       legal = subst (λ (l : List (Query × Reply)). IsLegal rows no_entries l) (sym (append-nil (zip queries replies))) maps;
       ledger = subst (λ (l : List (Query × Reply)). IsLegalLedger rows no_accounts l) (sym (append-nil (zip queries replies))) (ledger_alone rows room number o queries replies later out made answered ends);
+      licensed = (licensed_alone (queries ∷ []) 0 0 queries replies placed, tt);
     }
 
 -- the history of a script's one caller
@@ -146,6 +159,7 @@ history_none rows [] told none ht = subst (λ (t : List (List Reply)). IsHistory
   once = tt;
   legal = record { writes = []; stand = tt; once = λ k lt. absurd (omega (arith, lt)) };
   ledger = record { jobs = []; stand = tt; once = λ k lt. absurd (omega (arith, lt)) };
+  licensed = tt;
 }
 history_none rows (qs ∷ callers) told none ht = absurd (omega (arith, none))
 
@@ -166,40 +180,42 @@ placed_told n e p r true h = h
 placed_told n e p r false h = h
 
 -- what one reply leaves, and what is told from there on, is told from before it on
-alone_next : (number index : ℕ) (q : Query) (reply : Reply) (p r : Part) (old new : ChainView LedgerParcel) → AddsReply number index q reply p r → AddsJob number index q reply old new → IsKindFor q reply → is_granted reply ≡ true
+alone_next : (number index : ℕ) (q : Query) (reply : Reply) (p r : Part) (old new : ChainView LedgerParcel) → AddsReply number index q reply p r → AddsJob number index q reply old new → IsKindFor q reply → is_granted reply ≡ true → IsReply reply
     → (qs : List Query) (rs : List Reply) (w : Part) (later : List LedgerRun) → IsAlone number (index + 1) r new.own qs rs w later → IsAlone number index p old.own (q ∷ qs) (reply ∷ rs) w later
-alone_next number index q (Placed place said) p r old new h job kind granted qs rs w later next =
+alone_next number index q (Placed place said) p r old new h job kind granted fits qs rs w later next =
     let e : Entry = entry_for number index q said in
     let t = placed_told h.0 e p r (is_write said) h.3 in
     let here : ToldAlone number (index + 1) (seen_after h.0 said) r.told qs rs w.told = subst (λ s. ToldAlone number (index + 1) s r.told qs rs w.told) t.0 next.told in
     record {
       kinds = (kind, next.kinds);
+      numbers = (fits, next.numbers);
       told = (h.0, h.1, h.2, subst (λ (l : List Told). ToldAlone number (index + 1) (seen_after h.0 said) l qs rs w.told) t.1 here);
       answered = subst (λ (v : ChainView LedgerParcel). AnsweredAlone number (index + 1) v.own qs rs later) job next.answered;
     }
-alone_next number index q Busy p r old new h job kind granted qs rs w later next = absurd (let bad : false ≡ true = granted in cc)
-alone_next number index q (Late now) p r old new h job kind granted qs rs w later next = absurd (let bad : false ≡ true = granted in cc)
-alone_next number index q (Job at result) p r old new h job kind granted qs rs w later next =
+alone_next number index q Busy p r old new h job kind granted fits qs rs w later next = absurd (let bad : false ≡ true = granted in cc)
+alone_next number index q (Late now) p r old new h job kind granted fits qs rs w later next = absurd (let bad : false ≡ true = granted in cc)
+alone_next number index q (Job at result) p r old new h job kind granted fits qs rs w later next =
     let here : ToldAlone number (index + 1) p.seen r.told qs rs w.told = subst (λ s. ToldAlone number (index + 1) s r.told qs rs w.told) h.1 next.told in
     record {
       kinds = (kind, next.kinds);
+      numbers = (fits, next.numbers);
       told = subst (λ (l : List Told). ToldAlone number (index + 1) p.seen l qs rs w.told) h.0 here;
       answered = (job.0, job.1, job.2.rises, subst (λ (l : List LedgerRun). AnsweredAlone number (index + 1) l qs rs later) job.2.own next.answered);
     }
 
 -- one reply more: whatever was right behind the replies so far still is
 pub ask_next : (number mine index : ℕ) (rest : List Query) (d : Query) (done done' : List Reply) (reply : Reply) (p r : Part) (old new : ChainView LedgerParcel) (F : List Reply → Part → List LedgerRun → Type 0) → 1 ≤ length rest → mine ≡ number
-    → AddsReply mine index (get_or rest 0 d) reply p r → AddsJob mine index (get_or rest 0 d) reply old new → IsKindFor (get_or rest 0 d) reply → is_granted reply ≡ true → done' ≡ done ++ reply ∷ []
+    → AddsReply mine index (get_or rest 0 d) reply p r → AddsJob mine index (get_or rest 0 d) reply old new → IsKindFor (get_or rest 0 d) reply → is_granted reply ≡ true → IsReply reply → done' ≡ done ++ reply ∷ []
     → ((more : List Reply) (w : Part) (later : List LedgerRun) → IsAlone number index p old.own rest more w later → F (done ++ more) w later)
     → (more : List Reply) (w : Part) (later : List LedgerRun) → IsAlone number (index + 1) r new.own (take (length rest - 1) (drop 1 rest)) more w later → F (done' ++ more) w later
-ask_next number mine index [] d done done' reply p r old new F some is h job kind granted hd inv more w later next = absurd (omega (arith, some))
-ask_next number mine index (q ∷ qs) d done done' reply p r old new F some is h job kind granted hd inv more w later next =
+ask_next number mine index [] d done done' reply p r old new F some is h job kind granted fits hd inv more w later next = absurd (omega (arith, some))
+ask_next number mine index (q ∷ qs) d done done' reply p r old new F some is h job kind granted fits hd inv more w later next =
     let here : IsAlone number (index + 1) r new.own qs more w later = subst (λ (l : List Query). IsAlone number (index + 1) r new.own l more w later) (take_rest (q ∷ qs) 1) next in
     let same : done' ++ more ≡ done ++ (reply ∷ more) = ap (λ l. l ++ more) hd ∙ append_assoc done (reply ∷ []) more in
-    subst (λ (l : List Reply). F l w later) (sym same) (inv (reply ∷ more) w later (alone_next number index q reply p r old new (subst (λ n. AddsReply n index q reply p r) is h) (subst (λ n. AddsJob n index q reply old new) is job) kind granted qs more w later here))
+    subst (λ (l : List Reply). F l w later) (sym same) (inv (reply ∷ more) w later (alone_next number index q reply p r old new (subst (λ n. AddsReply n index q reply p r) is h) (subst (λ n. AddsJob n index q reply old new) is job) kind granted fits qs more w later here))
 
 -- no query is left
 pub ask_end : (number index : ℕ) (p : Part) (own : List LedgerRun) (rest : List Query) (done : List Reply) (F : List Reply → Part → List LedgerRun → Type 0) → length rest < 1
     → ((more : List Reply) (w : Part) (later : List LedgerRun) → IsAlone number index p own rest more w later → F (done ++ more) w later) → F done p own
-ask_end number index p own [] done F none inv = subst (λ (l : List Reply). F l p own) (append-nil done) (inv [] p own (record { kinds = tt; told = refl; answered = refl }))
+ask_end number index p own [] done F none inv = subst (λ (l : List Reply). F l p own) (append-nil done) (inv [] p own (record { kinds = tt; numbers = tt; told = refl; answered = refl }))
 ask_end number index p own (q ∷ qs) done F none inv = absurd (omega (arith, none))

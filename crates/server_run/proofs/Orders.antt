@@ -3,6 +3,7 @@ use Rattle.std.proofs.Common.{◌≡◌, ℕ, suc, List, [], ◌∷◌, ◌++◌
 use Rattle.std.proofs.lemmas.List.Sums.{sum_by-cons}
 use Rattle.std.proofs.Math.Seq.{take-append_seam, drop-append_seam, drop-cons}
 use Rattle.std.specs.Prelude.{IsPermutation, IsSorted}
+use Rattle.std.specs.List.{AllByRecursion}
 use Rattle.std.proofs.lemmas.List.Sorted.{length_permutation}
 use Rattle.query_rules.specs.declared.query.Reply.{Reply}
 use Rattle.query_rules.specs.declared.query.Reply.TheVariants.{Placed, Busy, Late, Job}
@@ -10,10 +11,12 @@ use Rattle.query_rules.specs.declared.query.Spot.{Spot}
 use Rattle.query_rules.specs.declared.query.Section.TheVariants as section
 use Rattle.query_rules.specs.declared.query.Section.{Section}
 use Rattle.query_rules.specs.Grammar.{Asked}
-use Rattle.query_rules.specs.Log.{spot_cmp, key_in, spots_with, spots_of, spots_from, placed_count, IsOrderOf, IsOrder, log_text}
+use Rattle.query_rules.specs.Numbers.{IsNumber, IsReply}
+use Rattle.query_rules.specs.Log.{spot_cmp, key_in, spots_with, spots_of, spots_from, placed_count, IsOrderOf, IsOrder, IsLogOf, log_text}
 use Rattle.query_text.proofs.Spots.{maps_count}
 use Rattle.query_rules.specs.History.{IsHistory}
-use Rattle.server_run.specs.Serve.{IsLogOf}
+use Rattle.script_laws.specs.Spelling.{IsWritable}
+use Rattle.server_run.proofs.HistoryLaws.{kinds_all}
 
 -- the spots of the map lines were sorted, then those of the job lines behind them
 pub order_made : (told : List (List Reply)) (maps all order : List Spot) (placed : ℕ) → IsOrderOf section.Maps told maps → all ≡ maps ++ spots_of section.Jobs 0 told → placed ≡ length maps
@@ -28,8 +31,18 @@ order_made told maps all order placed first is at front each sorted =
       jobs = subst (λ n. IsOrderOf section.Jobs told (drop n order)) count jobs;
     }
 
-pub log_of : (s : Asked) (rows : ℕ) (told : List (List Reply)) (order : List Spot) → IsHistory rows s.callers told → IsOrder told order → IsLogOf s rows (log_text s rows told order)
-log_of s rows told order history in_order = record { told = told; order = order; history = history; in_order = in_order; text_is = refl }
+-- the log of a history is one that can be read
+pub log_of : (s : Asked) (rows : ℕ) (told : List (List Reply)) (order : List Spot) → IsWritable s → IsNumber rows → AllByRecursion (AllByRecursion IsReply) told → IsHistory rows s.callers told → IsOrder told order → IsLogOf s rows told (log_text s rows told order)
+log_of s rows told order script room tells history in_order = record {
+  script = script.script;
+  asks = script.fits;
+  room = room;
+  tells = tells;
+  kinds = kinds_all rows s.callers told history;
+  order = order;
+  in_order = in_order;
+  text_is = refl;
+}
 
 -- a reply has a spot in at most one section
 from_room : (caller index : ℕ) (replies : List Reply) → length (spots_from section.Maps caller index replies) + length (spots_from section.Jobs caller index replies) ≤ length replies

@@ -1,6 +1,6 @@
 -- What one caller is told where nobody else asks.
 use Rattle.std.specs.Prelude.{◌≡◌, ℕ, ◌+◌, ◌≤◌, List, [], ◌∷◌, ◌++◌, count_by, is_some, Some, if◌then◌else◌}
-use Rattle.std.specs.List.{AllZip}
+use Rattle.std.specs.List.{AllByRecursion, AllZip}
 use Rattle.query_rules.specs.declared.query.Query.{Query}
 use Rattle.query_rules.specs.declared.query.Said.{Said}
 use Rattle.query_rules.specs.declared.query.LedgerAct.{LedgerAct}
@@ -9,6 +9,7 @@ use Rattle.query_rules.specs.declared.query.Reply.TheVariants.{Placed, Busy, Lat
 use Rattle.query_rules.specs.Maps.{is_write, may_write}
 use Rattle.query_rules.specs.Ledger.{act_of}
 use Rattle.query_rules.specs.History.{place_of, IsKindFor}
+use Rattle.query_rules.specs.Numbers.{IsReply}
 use Rattle.combine_job.specs.Parcels.{places}
 use Rattle.map_cargo.specs.declared.entry.Part.{Part}
 use Rattle.map_cargo.specs.declared.entry.Entry.{Entry}
@@ -54,8 +55,9 @@ AnsweredAlone number index own (q ∷ queries) (Late now ∷ replies) later = �
 AnsweredAlone number index own (q ∷ queries) (Job at result ∷ replies) later =
     (act : LedgerAct) × (act_of q ≡ Some act) × ((p : ℕ) → at ≤ p → places p own ≡ 0) × AnsweredAlone number (index + 1) (own ++ answer_for number index act at result ∷ []) queries replies later
 
--- Replies to these queries, the first of which has this index, each of its query's kind, took what a pass of the hall knows from p to r, and what the pass of the ledger's lock lists from `own` to `later`: the placed replies and the jobs are told there in their order
+-- Replies to these queries, the first of which has this index, each of its query's kind and with a machine's numbers, took what a pass of the hall knows from p to r, and what the pass of the ledger's lock lists from `own` to `later`: the placed replies and the jobs are told there in their order
 pub record IsAlone (number index : ℕ) (p : Part) (own : List LedgerRun) (queries : List Query) (replies : List Reply) (r : Part) (later : List LedgerRun) : Type 0 where
   pub kinds : AllZip IsKindFor queries replies
+  pub numbers : AllByRecursion IsReply replies
   pub told : ToldAlone number index p.seen p.told queries replies r.told
   pub answered : AnsweredAlone number index own queries replies later

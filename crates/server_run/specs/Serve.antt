@@ -7,10 +7,9 @@ use Rattle.ql_base.specs.Bytes.{AppendsFront}
 use Rattle.ql_base.specs.Causes.{Rose}
 use Rattle.query_rules.specs.declared.query.Reply.{Reply}
 use Rattle.query_rules.specs.declared.query.Cause.{Cause}
-use Rattle.query_rules.specs.declared.query.Spot.{Spot}
 use Rattle.query_rules.specs.Grammar.{Asked, said_by}
 use Rattle.query_rules.specs.History.{IsHistory}
-use Rattle.query_rules.specs.Log.{IsOrder, log_text, refused_at, refused_length}
+use Rattle.query_rules.specs.Log.{IsLogOf, refused_at, refused_length}
 
 -- the most bytes that a script may have
 abbrev pub limit : ℕ
@@ -24,35 +23,38 @@ script_in (Err fault) = None
 abbrev pub script_of : List ℕ → Option Asked
 script_of bytes = script_in (said_by bytes)
 
--- where the source tells its bytes, all of them came, they aren't too many, and they ask this script
+-- these are the bytes that the source had left, where it tells them
+abbrev pub IsInput : Option (List ℕ) → List ℕ → Type 0
+IsInput left bytes = IfSome left (λ told. bytes ≡ told)
+
+-- the input was read to its end, it isn't too long, and it asks this script
 pub record Reads (left left_new : Option (List ℕ)) (script : Asked) : Type 0 where
-  pub asked : IfSome left (λ bytes. script_of bytes ≡ Some script)
-  pub short : IfSome left (λ bytes. length bytes ≤ limit)
+  pub bytes : List ℕ
+  pub input : IsInput left bytes
+  pub asked : script_of bytes ≡ Some script
+  pub short : length bytes ≤ limit
   pub end : IsAtEnd left_new
 
--- the printed form of one history of what a script asks
-pub record IsLogOf (script : Asked) (rows : ℕ) (text : List ℕ) : Type 0 where
-  pub told : List (List Reply)
-  pub order : List Spot
-  pub history : IsHistory rows script.callers told
-  pub in_order : IsOrder told order
-  pub text_is : text ≡ log_text script rows told order
-
--- Status 0: what was written is exactly the printed form of one history of the script that the bytes ask.
+-- Status 0: what was written is exactly the printed form of one history of the script that the input asks.
 -- Each caller's queries stand in it once, in its order, with the replies of plain maps and of a plain ledger that one thread changes, and the totals count them.
+-- A source that tells nothing leaves open which script it is.
 pub record WritesOneHistory (left left_new written written_new : Option (List ℕ)) (rows : ℕ) : Type 0 where
   pub script : Asked
   pub read : Reads left left_new script
+  pub told : List (List Reply)
   pub text : List ℕ
-  pub log : IsLogOf script rows text
+  pub log : IsLogOf script rows told text
+  pub history : IsHistory rows script.callers told
   pub grew : Appends written written_new text
 
 -- Status 5: a front of such a text was written.
 pub record WritesFront (left left_new written written_new : Option (List ℕ)) (rows : ℕ) : Type 0 where
   pub script : Asked
   pub read : Reads left left_new script
+  pub told : List (List Reply)
   pub text : List ℕ
-  pub log : IsLogOf script rows text
+  pub log : IsLogOf script rows told text
+  pub history : IsHistory rows script.callers told
   pub grew : AppendsFront written written_new text
 
 -- more bytes came than a script may have, or they ask no script
@@ -71,16 +73,22 @@ refusal_of bytes = if nat_lt limit (length bytes) then refused_length else fault
 abbrev pub IsRefusalOf : List ℕ → List ℕ → Type 0
 IsRefusalOf text bytes = IsRefused bytes × (text ≡ refusal_of bytes)
 
--- Status 3: the bytes are refused, and what was written says why.
+-- the input is refused, and this says why
+pub record TellsRefusal (left : Option (List ℕ)) (text : List ℕ) : Type 0 where
+  pub bytes : List ℕ
+  pub input : IsInput left bytes
+  pub refused : IsRefusalOf text bytes
+
+-- Status 3: the input is refused, and what was written says why.
 pub record WritesRefusal (left written written_new : Option (List ℕ)) : Type 0 where
   pub text : List ℕ
-  pub refused : IfSome left (IsRefusalOf text)
+  pub refused : TellsRefusal left text
   pub grew : Appends written written_new text
 
 -- Status 5 of a refused input: a front of that was written.
 pub record WritesRefusalFront (left written written_new : Option (List ℕ)) : Type 0 where
   pub text : List ℕ
-  pub refused : IfSome left (IsRefusalOf text)
+  pub refused : TellsRefusal left text
   pub grew : AppendsFront written written_new text
 
 -- these bytes are a script, and not too many

@@ -1,9 +1,10 @@
 // One caller of a script, who asks its queries.
-ghost use Rattle.std.specs.Prelude.{◌≡◌, ◌≤◌, [], length, vec_capacity};
+ghost use Rattle.std.specs.Prelude.{◌≡◌, ◌<◌, ◌≤◌, ◌∷◌, ◌++◌, [], length, vec_capacity};
 ghost use Rattle.std.specs.List.{AllByRecursion};
 ghost use Rattle.hall.specs.Numbers.{width};
 ghost use Rattle.hall.specs.Passes.{view, IsPassOf, cargo_of};
 ghost use Rattle.query_rules.specs.Grammar.{TakesBelow};
+ghost use Rattle.query_rules.specs.Numbers.{IsReply};
 ghost use Rattle.map_cargo.specs.Steps.{IsIdle};
 ghost use Rattle.dist_mutex.specs.Passes.{IsAtRest, IsDistPassOf, SameNumbers, dist_view};
 ghost use Rattle.server_run.specs.Alone.{IsAlone, jobs_of, writes_of};
@@ -70,9 +71,19 @@ impl<T: Clock> Caller<T> {
                 query,
             );
             gate.after(0, index);
-            push_reserved(&mut self.replies, reply);
+            keep_reply(&mut self.replies, reply);
             index += 1;
             rest = after;
         }
     }
+}
+
+// Adds a reply, whose numbers are those of a machine, to a list that has room left.
+fn keep_reply(replies: &mut Vec<Reply>, reply: Reply)
+    requires room { length replies.old.items < vec_capacity replies.old }
+    ensures items { replies.new.items ≡ replies.old.items ++ reply ∷ [] }
+    ensures room { vec_capacity replies.old ≤ vec_capacity replies.new }
+    ensures numbers { IsReply reply }
+{
+    push_reserved(replies, reply);
 }

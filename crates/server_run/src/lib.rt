@@ -23,4 +23,8 @@ pub use run::{Ran, run_script};
 pub use serve::serve_main;
 
 #[cfg(test)]
+mod gate_tests;
+#[cfg(test)]
+mod sink_tests;
+#[cfg(test)]
 mod tests;

@@ -1,6 +1,8 @@
 // The queries of a script, asked by one thread.
 ghost use Rattle.std.specs.Prelude.{IfOk};
+ghost use Rattle.std.specs.List.{AllByRecursion};
 ghost use Rattle.query_rules.specs.History.{IsHistory};
+ghost use Rattle.query_rules.specs.Numbers.{IsReply};
 ghost use Rattle.query_rules.specs.Log.{IsOrder};
 ghost use Rattle.command_line.specs.Form.{IsWithinLimits};
 
@@ -37,6 +39,7 @@ pub fn run_script<R: Wait, T: Clocks, G: Gate>(
 ) -> Result<Ran, NoMemory>
     requires limits { IsWithinLimits options.now }
     ensures history { IfOk result (λ ran. IsHistory options.now.rows script.now.callers ran.outcome) }
+    ensures numbers { IfOk result (λ ran. AllByRecursion (AllByRecursion IsReply) ran.outcome) }
     ensures order { IfOk result (λ ran. IsOrder ran.outcome ran.order.items) }
 {
     let callers = script.callers();

@@ -3,7 +3,11 @@ ghost use Rattle.std.specs.Prelude.{◌≡◌, ◌↔◌, ◌+◌, ◌⊎◌, So
 ghost use Rattle.std.specs.Io.KnownBytes.{Appends};
 ghost use Rattle.ql_base.specs.Bytes.{AppendsFront, TakesUpTo};
 ghost use Rattle.ql_base.specs.Causes.{Rose};
-ghost use Rattle.server_run.specs.Serve.{limit, Reads, IsLogOf, WritesOneHistory, WritesFront, IsRefusalOf, WritesRefusal, WritesRefusalFront, Completes, Refuses};
+ghost use Rattle.script_laws.specs.Spelling.{IsWritable};
+ghost use Rattle.query_rules.specs.declared.query.Reply.{Reply};
+ghost use Rattle.query_rules.specs.History.{IsHistory};
+ghost use Rattle.query_rules.specs.Log.{IsLogOf};
+ghost use Rattle.server_run.specs.Serve.{limit, Reads, WritesOneHistory, WritesFront, TellsRefusal, WritesRefusal, WritesRefusalFront, Completes, Refuses};
 ghost use Rattle.query_text.specs.Refusals.{refusal_text};
 ghost use Rattle.query_text.specs.declared.refusal.Refusal.{Refusal};
 ghost use Rattle.command_line.specs.Form.{IsWithinLimits, options_in};
@@ -49,7 +53,7 @@ enum LogFault {
 // Reads the source to its end, and the script that its bytes ask.
 fn read_script<S: Source>(alloc: Global, source: &mut S) -> Result<Script, ScriptFault>
     ensures read { IfOk result (λ script. Reads (S.left source.old) (S.left source.new) script) }
-    ensures refused { IfErr result (λ e. (r : Refusal) → e ≡ ScriptFault.Refused r → IfSome (S.left source.old) (IsRefusalOf (refusal_text r))) }
+    ensures refused { IfErr result (λ e. (r : Refusal) → e ≡ ScriptFault.Refused r → TellsRefusal (S.left source.old) (refusal_text r)) }
     ensures fault { IsErrOf result ScriptFault.Read → Rose (S.faults source.old) (S.faults source.new) }
     ensures counted { TakesUpTo (S.left source.old) (S.left source.new) (limit + 1) }
 {
@@ -79,8 +83,9 @@ fn answer<R: Wait, K: Sink, T: Clocks, G: Gate>(
     gate: &G,
 ) -> Result<(), LogFault>
     requires limits { IsWithinLimits options.now }
-    ensures written { OnOk result ((text : List ℕ) × IsLogOf script.now options.now.rows text × Appends (K.written sink.old) (K.written sink.new) text) }
-    ensures cut { IsErrOf result LogFault.Write → (text : List ℕ) × IsLogOf script.now options.now.rows text × AppendsFront (K.written sink.old) (K.written sink.new) text }
+    requires script { IsWritable script.now }
+    ensures written { OnOk result ((told : List (List Reply)) × (text : List ℕ) × IsLogOf script.now options.now.rows told text × IsHistory options.now.rows script.now.callers told × Appends (K.written sink.old) (K.written sink.new) text) }
+    ensures cut { IsErrOf result LogFault.Write → (told : List (List Reply)) × (text : List ℕ) × IsLogOf script.now options.now.rows told text × IsHistory options.now.rows script.now.callers told × AppendsFront (K.written sink.old) (K.written sink.new) text }
     ensures fault { IsErrOf result LogFault.Write → Rose (K.faults sink.old) (K.faults sink.new) }
     ensures memory { IsErrOf result LogFault.NoMemory → sink.new ≡ sink.old }
 {

@@ -1,4 +1,4 @@
-use Rattle.std.proofs.Common.{sym, subst, List}
+use Rattle.std.proofs.Common.{arith, sym, subst, List}
 use Rattle.query_rules.specs.declared.query.Spot.{Spot}
 use Rattle.query_rules.specs.Log.{IsOrder}
 use Rattle.server_run.proofs.HistoryLaws.{kinds_all}
@@ -11,4 +11,15 @@ write_log-requires-clause-kinds g c = kinds_all c.args.options.now.rows c.args.s
 pub returns-clause-cut : goal.returns-clause-cut
 returns-clause-cut g c = λ is.
     let P : List Spot → Type 0 = λ o. IsOrder c.in-Ok.ran.outcome o in
-    (_, log_of c.args.script.now c.args.options.now.rows c.in-Ok.ran.outcome c.deref.result.now c.in-Ok.ensures.history (subst P (sym c.deref.ensures.value) c.in-Ok.ensures.order), c.in-Err.ensures.bytes)
+    let rows = c.args.options.now.rows in
+    let most = c.requires.limits.1 in
+    let log = log_of c.args.script.now rows c.in-Ok.ran.outcome c.deref.result.now c.requires.script (omega (arith, most)) c.in-Ok.ensures.numbers c.in-Ok.ensures.history (subst P (sym c.deref.ensures.value) c.in-Ok.ensures.order) in
+    (c.in-Ok.ran.outcome, _, log, c.in-Ok.ensures.history, c.in-Err.ensures.bytes)
+
+pub returns-in-Ok-write_log-clause-written : goal.returns-in-Ok-write_log-clause-written
+returns-in-Ok-write_log-clause-written g c =
+    let P : List Spot → Type 0 = λ o. IsOrder c.in-Ok.ran.outcome o in
+    let rows = c.args.options.now.rows in
+    let most = c.requires.limits.1 in
+    let log = log_of c.args.script.now rows c.in-Ok.ran.outcome c.deref.result.now c.requires.script (omega (arith, most)) c.in-Ok.ensures.numbers c.in-Ok.ensures.history (subst P (sym c.deref.ensures.value) c.in-Ok.ensures.order) in
+    (c.in-Ok.ran.outcome, _, log, c.in-Ok.ensures.history, c.in-Ok-write_log.ensures.bytes)

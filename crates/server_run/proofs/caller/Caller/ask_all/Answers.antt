@@ -21,15 +21,15 @@ loop-rest-preserved g c =
     let was = c.loop-rest.self in
     let rest = c.loop-rest.rest.now in
     let len = ap length (take_rest rest 1) ∙ length-drop 1 rest in
-    let more = ap length c.push_reserved.ensures.items ∙ length-append was.replies.items (c.ask-reply.result ∷ []) in (
-      ask_next (view me.pass).number (view was.pass).number c.loop-rest.index rest _ was.replies.items c.push_reserved.new.list.items c.ask-reply.result (view was.pass).part (view c.ask-reply.new.pass).part (dist_view was.dist_pass) (dist_view c.ask-reply.new.dist_pass) F
-          some so.2.number said.told said.job said.kind (said.alone c.requires.hall.seats) c.push_reserved.ensures.items so.0,
+    let more = ap length c.keep_reply.ensures.items ∙ length-append was.replies.items (c.ask-reply.result ∷ []) in (
+      ask_next (view me.pass).number (view was.pass).number c.loop-rest.index rest _ was.replies.items c.keep_reply.new.replies.items c.ask-reply.result (view was.pass).part (view c.ask-reply.new.pass).part (dist_view was.dist_pass) (dist_view c.ask-reply.new.dist_pass) F
+          some so.2.number said.told said.job said.kind (said.alone c.requires.hall.seats) c.keep_reply.ensures.numbers c.keep_reply.ensures.items so.0,
       (said.pass, said.idle),
       record { number = said.same.number ∙ so.2.number; span = said.same.span ∙ so.2.span; taken = said.same.taken ∙ so.2.taken },
       all_next _ rest so.3,
       quota_left rest _ c.ask-reply.result _ _ some so.4 said.kind said.quota,
       jobs_left (view was.pass).number c.loop-rest.index rest _ c.ask-reply.result (dist_view was.dist_pass) (dist_view c.ask-reply.new.dist_pass) some so.5 said.job,
-      omega (arith, so.6, some, len, more, c.push_reserved.ensures.room),
+      omega (arith, so.6, some, len, more, c.keep_reply.ensures.room),
       omega (arith, so.7, some, len),
       said.dist,
       record { number = said.dist_same.number ∙ so.9.number; spare = said.dist_same.spare ∙ so.9.spare; past = said.dist_same.past ∙ so.9.past; gone = said.dist_same.gone ∙ so.9.gone },
