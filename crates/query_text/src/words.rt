@@ -1,5 +1,5 @@
 // Lines, and the words of a line.
-ghost use Rattle.std.specs.Prelude.{◌≡◌, ◌≢◌, ◌∷◌, ◌<◌, ◌≤◌, ℕ, length, map, take, slice_index, true, false, Some, None, IfSome, IfNone, IfOk, IfErr, OnOk};
+ghost use Rattle.std.specs.Prelude.{◌≡◌, ◌∷◌, ◌<◌, ◌≤◌, ℕ, length, map, take, slice_index, true, false, Some, None, IfSome, IfNone, IfOk, IfErr, OnOk};
 ghost use Rattle.std.specs.Option.{option_copied};
 ghost use Rattle.query_rules.specs.Words.{lines_of, words_of};
 ghost use Rattle.query_rules.specs.Grammar as grammar;
@@ -8,24 +8,11 @@ ghost use Rattle.query_text.specs.Reads.{rest_words};
 ghost use Rattle.query_text.specs.Spelling as spelling;
 
 use arrayvec::ArrayVec;
+use memchr::memchr;
 use query_rules::Cause;
 
 /// One more word than any form of a line has.
 pub const ENOUGH_WORDS: usize = 6;
-
-// Where the separator stands first, or where the bytes end.
-fn piece_end(bytes: &[u8], separator: u8) -> usize
-    ensures within { result ≤ length bytes.now }
-    ensures before { (k : ℕ) → k < result → slice_index bytes.now k ≢ separator }
-    ensures found { result < length bytes.now → slice_index bytes.now result ≡ separator }
-{
-    for (i, b) in bytes.iter().enumerate() {
-        if *b == separator {
-            return i;
-        }
-    }
-    bytes.len()
-}
 
 /// Takes the first line off, without its end.
 pub fn cut_line(bytes: &[u8]) -> (&[u8], &[u8])
@@ -33,11 +20,9 @@ pub fn cut_line(bytes: &[u8]) -> (&[u8], &[u8])
     ensures cut { lines_of bytes.now ≡ result.0.now ∷ lines_of result.1.now }
     ensures shorter { length result.1.now < length bytes.now }
 {
-    let end = piece_end(bytes, b'\n');
-    if end < bytes.len() {
-        (&bytes[..end], &bytes[end + 1..])
-    } else {
-        (bytes, &[])
+    match memchr(b'\n', bytes) {
+        Some(end) => (&bytes[..end], &bytes[end + 1..]),
+        None => (bytes, &[]),
     }
 }
 
@@ -46,11 +31,9 @@ pub fn cut_word(text: &[u8]) -> (&[u8], Option<&[u8]>)
     ensures cut { words_of text.now ≡ result.0.now ∷ rest_words (option_copied result.1) }
     ensures shorter { IfSome result.1 (λ rest. length rest.now < length text.now) }
 {
-    let end = piece_end(text, b' ');
-    if end < text.len() {
-        (&text[..end], Some(&text[end + 1..]))
-    } else {
-        (text, None)
+    match memchr(b' ', text) {
+        Some(end) => (&text[..end], Some(&text[end + 1..])),
+        None => (text, None),
     }
 }
 
