@@ -21,6 +21,7 @@ use Rattle.map_cargo.specs.declared.entry.Told.{Told}
 use Rattle.map_cargo.specs.declared.entry.Told.TheVariants.{Wrote, Read, Refused}
 use Rattle.map_cargo.specs.declared.entry.Part.{Part}
 use Rattle.map_cargo.specs.Entries.{queries, as_reply}
+use Rattle.map_cargo.specs.Openings.{first_maps}
 use Rattle.map_cargo.specs.History.{Seat, Stands, WrittenAs, ReadAfter, OneHistory, IsRested, is_wrote, first_part}
 use Rattle.map_cargo.specs.Laws.{all_stored}
 use Rattle.map_cargo.specs.Steps.{Ended}
@@ -44,9 +45,9 @@ it_wrote w (Refused caller index query reply) pos = absurd (omega arith)
 holds_write : (w : ℕ) (told : List Told) → 0 < total (is_wrote w) told → (e : Entry) × Has told (Wrote w e)
 holds_write w told pos = let u = find (is_wrote w) told pos in let t = it_wrote w u.1 u.3 in (t.0, subst (Has told) t.1 (has_at told u.0 u.1 u.2))
 
-pub ended : (opening : Maps) (c : MapCargo) (ws : List ℕ) (q : Seat) (id : ℕ) (whole : Type 0) → IsRested q.part
-    → (qs : List Seat) × OneHistory opening c ws qs × (get_elem? qs id ≡ some q) × (whole → (j : ℕ) (u : Seat) → get_elem? qs j ≡ some u → j ≢ id → u.part ≡ first_part) → Ended opening c ws q.part whole
-ended opening c ws q id whole rested t =
+pub ended : (c : MapCargo) (ws : List ℕ) (q : Seat) (id : ℕ) (whole : Type 0) → IsRested q.part
+    → (qs : List Seat) × OneHistory c ws qs × (get_elem? qs id ≡ some q) × (whole → (j : ℕ) (u : Seat) → get_elem? qs j ≡ some u → j ≢ id → u.part ≡ first_part) → Ended c ws q.part whole
+ended c ws q id whole rested t =
     let h = t.1 in let k = h.knows id q t.2 in
     let once : whole → (w : ℕ) → w < length h.entries → total (is_wrote w) q.part.told ≡ 1 = λ is w below. sym (sole (λ (u : Seat). total (is_wrote w) u.part.told) t.0 id q t.2 (λ j u e ne. ap (λ (p : Part). total (is_wrote w) p.told) (t.3 is j u e ne))) ∙ h.once w below in record {
       entries = h.entries;
@@ -135,9 +136,10 @@ module _ (opening : Maps) where
     counted w (t ∷ told) each =
         sum_by-cons (λ (x : Query × Reply). cond (is_write_at w x) 1 0) (as_reply t) (map as_reply told) ∙ omega (arith, mark w t (each t (inl refl)), counted w told (λ u has. each u (inr has)))
 
-  pub legal : (c : MapCargo) (ws : List ℕ) (p : Part) (whole : Type 0) → Ended opening c ws p whole → whole → IsLegal c.rows opening (map as_reply p.told)
-  legal c ws p whole h is = record {
-    writes = in_order h.entries;
-    stand = all_stand c.rows h.entries p.told h.told;
-    once = λ w below. counted c.rows h.entries w p.told h.told ∙ h.all is w (omega (arith, length-reverse (queries h.entries), length-queries h.entries));
-  }
+-- the replies at the end are one legal history
+pub legal : (c : MapCargo) (ws : List ℕ) (p : Part) (whole : Type 0) → Ended c ws p whole → whole → IsLegal c.rows (first_maps c) (map as_reply p.told)
+legal c ws p whole h is = record {
+  writes = in_order h.entries;
+  stand = all_stand (first_maps c) c.rows h.entries p.told h.told;
+  once = λ w below. counted (first_maps c) c.rows h.entries w p.told h.told ∙ h.all is w (omega (arith, length-reverse (queries h.entries), length-queries h.entries));
+}

@@ -164,17 +164,17 @@ written_else f (Take key n) i missing = refl
 written_else f Audit i missing = refl
 
 -- these cells have these writes
-abbrev pub noted : List Query → List ℕ → List (ℕ × List Query) → List (ℕ × List Query)
-noted writes [] xs = xs
-noted writes (c ∷ cs) xs = (c, writes) ∷ noted writes cs xs
+abbrev pub noted : {A : Type 0} → A → List ℕ → List (ℕ × A) → List (ℕ × A)
+noted a [] xs = xs
+noted a (c ∷ cs) xs = (c, a) ∷ noted a cs xs
 
-module _ (writes : List Query) (xs : List (ℕ × List Query)) (i : ℕ) where
-  pub noted_here : (cs : List ℕ) → Has cs i → lookup [] (noted writes cs xs) i ≡ writes
+module _ {A : Type 0} (d a : A) (xs : List (ℕ × A)) (i : ℕ) where
+  pub noted_here : (cs : List ℕ) → Has cs i → lookup d (noted a cs xs) i ≡ a
   noted_here [] h = absurd h
   noted_here (c ∷ cs) h = dite (ℕ_discrete i c)
-      (λ same. subst (λ (z : ℕ). lookup [] (noted writes (c ∷ cs) xs) z ≡ writes) (sym same) (lookup_here [] (noted writes cs xs) c writes))
-      (λ ne. lookup_else [] (noted writes cs xs) c i writes ne ∙ noted_here cs (⊎_elim (λ e. absurd (ne e)) (λ t. t) h))
+      (λ same. subst (λ (z : ℕ). lookup d (noted a (c ∷ cs) xs) z ≡ a) (sym same) (lookup_here d (noted a cs xs) c a))
+      (λ ne. lookup_else d (noted a cs xs) c i a ne ∙ noted_here cs (⊎_elim (λ e. absurd (ne e)) (λ t. t) h))
 
-  pub noted_else : (cs : List ℕ) → (Has cs i → ⊥) → lookup [] (noted writes cs xs) i ≡ lookup [] xs i
+  pub noted_else : (cs : List ℕ) → (Has cs i → ⊥) → lookup d (noted a cs xs) i ≡ lookup d xs i
   noted_else [] missing = refl
-  noted_else (c ∷ cs) missing = lookup_else [] (noted writes cs xs) c i writes (λ e. missing (inl e)) ∙ noted_else cs (λ t. missing (inr t))
+  noted_else (c ∷ cs) missing = lookup_else d (noted a cs xs) c i a (λ e. missing (inl e)) ∙ noted_else cs (λ t. missing (inr t))

@@ -3,11 +3,11 @@ use Rattle.std.specs.Prelude.{MatchOption}
 use Rattle.std.proofs.Common.{◌≡◌, ◌<◌, ◌+◌, ◌-◌, ◌*◌, ℕ, List, [], length, set, get_or, sym, refl, ap, ◌∙◌, subst, arith, Option, Some, None}
 use mathlib.Core.Logic.{dite}
 use native.Mathlib.Decide.{ℕ_discrete}
-use Rattle.query_rules.specs.declared.query.Query.{Query}
-use Rattle.query_rules.specs.Maps.{PlainMap, Maps, with_value, without}
-use Rattle.query_rules.specs.History.{maps_after}
+use Rattle.query_rules.specs.Maps.{PlainMap, with_value, without}
+use Rattle.map_cargo.specs.declared.entry.Made.{Made}
 use Rattle.map_cargo.specs.declared.entry.Part.{Part}
 use Rattle.map_cargo.specs.Cells.{Means, lookup}
+use Rattle.map_cargo.specs.Openings.{map_made, unmade}
 use Rattle.map_cargo.specs.History.{IsSettled, words_of, plain_of}
 use Rattle.map_cargo.specs.Laws.{lookup_here, lookup_else}
 use Rattle.map_cargo.specs.Rows.{home, way, key_at, value_in, IsUsed, IsFree, LookedAt, Table, WithRow}
@@ -29,10 +29,10 @@ module _ (p : Part) (cell : ℕ) where
   words_here i v = lookup_here [] p.words cell (set (words_of p cell) i v)
 
   pub reworded : (i v : ℕ) → Reworded cell p (rewrote p cell i v)
-  reworded i v = record { others = λ k ne. lookup_else [] p.words cell k (set (words_of p cell) i v) ne; writes = refl; seen = refl; told = refl; row = refl; stored = refl }
+  reworded i v = record { others = λ k ne. lookup_else [] p.words cell k (set (words_of p cell) i v) ne; made = refl; seen = refl; told = refl; row = refl; stored = refl }
 
 pub then' : (cell : ℕ) (p q r : Part) → Reworded cell p q → Reworded cell q r → Reworded cell p r
-then' cell p q r h k = record { others = λ i ne. k.others i ne ∙ h.others i ne; writes = k.writes ∙ h.writes; seen = k.seen ∙ h.seen; told = k.told ∙ h.told; row = k.row ∙ h.row; stored = k.stored ∙ h.stored }
+then' cell p q r h k = record { others = λ i ne. k.others i ne ∙ h.others i ne; made = k.made ∙ h.made; seen = k.seen ∙ h.seen; told = k.told ∙ h.told; row = k.row ∙ h.row; stored = k.stored ∙ h.stored }
 
 pub at_none : (X : Type 0) (Y : ℕ → Type 0) (o : Option ℕ) → o ≡ None → MatchOption o X Y → X
 at_none X Y o is h = subst (λ z. MatchOption z X Y) is h
@@ -74,9 +74,9 @@ del_old rows words middle words' key row before count wide used is old counts lo
     )
 
 -- a key that was put in without a draw and taken out again leaves its cell settled
-pub taken_back : (opening : Maps) (lock cell key value : ℕ) (p q q' r : Part) → lock ≡ cell → Reworded cell p q → None ≡ (plain_of opening p cell).value_at key → q' ≡ q → Reworded cell q' r
-    → Means (words_of r cell) (without (with_value (plain_of opening p cell) key value) key) → IsSettled opening lock r
-taken_back opening lock cell key value p q q' r at first none same second h =
-    let writes : r.writes ≡ p.writes = second.writes ∙ ap (λ (z : Part). z.writes) same ∙ first.writes in
-    let maps : without (with_value (plain_of opening p cell) key value) key ≡ plain_of opening r cell = restored (plain_of opening p cell) key value (sym none) ∙ ap (λ (l : List (ℕ × List Query)). maps_after opening (lookup [] l cell) cell) (sym writes) in
-    subst (λ (k : ℕ). IsSettled opening k r) (sym at) (subst (Means (words_of r cell)) maps h)
+pub taken_back : (lock cell key value : ℕ) (p q q' r : Part) → lock ≡ cell → Reworded cell p q → None ≡ (plain_of p cell).value_at key → q' ≡ q → Reworded cell q' r
+    → Means (words_of r cell) (without (with_value (plain_of p cell) key value) key) → IsSettled lock r
+taken_back lock cell key value p q q' r at first none same second h =
+    let made : r.made ≡ p.made = second.made ∙ ap (λ (z : Part). z.made) same ∙ first.made in
+    let maps : without (with_value (plain_of p cell) key value) key ≡ plain_of r cell = restored (plain_of p cell) key value (sym none) ∙ ap (λ (l : List (ℕ × Made)). map_made (lookup unmade l cell) cell) (sym made) in
+    subst (λ (k : ℕ). IsSettled k r) (sym at) (subst (Means (words_of r cell)) maps h)

@@ -10,12 +10,12 @@ use Rattle.view_sums.specs.Sums.{total, total-set, total-same, there}
 use Rattle.lock_model.specs.declared.model.Mode.{Mode}
 use Rattle.lock_model.specs.declared.model.Mode.TheVariants.{Shared, Upgrade, Exclusive}
 use Rattle.hall.specs.Cargo.{Together, Notes, noted_seat, exclusive_mode}
-use Rattle.query_rules.specs.Maps.{Maps}
 use Rattle.query_rules.specs.History.{maps_after}
 use Rattle.map_cargo.specs.declared.size.MapCargo.{MapCargo}
 use Rattle.map_cargo.specs.declared.entry.Part.{Part}
 use Rattle.map_cargo.specs.Cells.{width, number_place, log_place, cell_words, Means}
 use Rattle.map_cargo.specs.Entries.{queries}
+use Rattle.map_cargo.specs.Openings.{first_maps}
 use Rattle.map_cargo.specs.History.{Seat, is_wrote, mode_at, words_of, plain_of, Knows, OneHistory}
 use Rattle.map_cargo.specs.Laws.{lookup_here, lookup_else, each_set, each_back}
 use Rattle.map_cargo.specs.Steps.{rewrote}
@@ -28,12 +28,12 @@ alone (Some Shared) h = cc
 alone (Some Upgrade) h = cc
 alone (Some Exclusive) h = cc
 
-module _ (opening : Maps) (c : MapCargo) (ws : List ℕ) (qs : List Seat) (id : ℕ) (q : Seat) (h : OneHistory opening c ws qs) (at : get_elem? qs id ≡ some q) where
+module _ (c : MapCargo) (ws : List ℕ) (qs : List Seat) (id : ℕ) (q : Seat) (h : OneHistory c ws qs) (at : get_elem? qs id ≡ some q) where
   abbrev mine : ℕ → Part → Seat
   mine used part = noted_seat q used part
 
   -- no word changes
-  pub quiet : (part : Part) → Knows opening c h.entries ws (noted_seat q 0 part) → ((w : ℕ) → total (is_wrote w) part.told ≡ total (is_wrote w) q.part.told) → OneHistory opening c ws (set qs id (noted_seat q 0 part))
+  pub quiet : (part : Part) → Knows c h.entries ws (noted_seat q 0 part) → ((w : ℕ) → total (is_wrote w) part.told ≡ total (is_wrote w) q.part.told) → OneHistory c ws (set qs id (noted_seat q 0 part))
   quiet part knows same =
       let r : Seat = noted_seat q 0 part in record {
         entries = h.entries;
@@ -41,27 +41,27 @@ module _ (opening : Maps) (c : MapCargo) (ws : List ℕ) (qs : List Seat) (id : 
         number = h.number;
         room = omega (arith, total-set (λ (u : Seat). u.quota) qs id q r at, h.room);
         few = h.few;
-        knows = each_set (Knows opening c h.entries ws) qs id r h.knows knows;
+        knows = each_set (Knows c h.entries ws) qs id r h.knows knows;
         once = λ w below. total-same (λ (u : Seat). total (is_wrote w) u.part.told) qs id q r at (same w) ∙ h.once w below;
         calm = λ cell below nobody. h.calm cell below (each_back (λ (u : Seat). mode_at u cell ≢ exclusive_mode) qs id q r at nobody (λ o. o));
       }
 
 -- a load of a word of a held cell
-pub reads : (opening : Maps) (c : MapCargo) (id cell i place cell' i' w' : ℕ) (q : Seat) → place ≡ cell * width c + i → cell ≡ cell' → i ≡ i' → width c ≡ w' → cell < c.cells → i < width c → mode_at q cell ≢ None
-    → Notes (OneHistory opening c) id q 0 place (λ x. x) (λ found p r. (r ≡ p) × (found ≡ get_or (words_of p cell') i' 0) × (length (words_of p cell') ≡ w'))
-reads opening c id cell i place cell' i' w' q is one two three below small has ws qs h apart at in' fits =
+pub reads : (c : MapCargo) (id cell i place cell' i' w' : ℕ) (q : Seat) → place ≡ cell * width c + i → cell ≡ cell' → i ≡ i' → width c ≡ w' → cell < c.cells → i < width c → mode_at q cell ≢ None
+    → Notes (OneHistory c) id q 0 place (λ x. x) (λ found p r. (r ≡ p) × (found ≡ get_or (words_of p cell') i' 0) × (length (words_of p cell') ≡ w'))
+reads c id cell i place cell' i' w' q is one two three below small has ws qs h apart at in' fits =
     let k = h.knows id q at in let t = k.known cell below has in
     let read : get_or ws place 0 ≡ get_or (words_of q.part cell) i 0 = ap (λ (z : ℕ). get_or ws z 0) is ∙ sym (word_at c ws cell i small) ∙ ap (λ (l : List ℕ). get_or l i 0) (sym t.0) in
     let far : length (words_of q.part cell) ≡ width c = ap (λ (l : List ℕ). length l) t.0 ∙ wide c ws cell below h.size in (
       q.part,
       (refl, read ∙ (λ j. get_or (words_of q.part (one j)) (two j) 0), ap (λ (z : ℕ). length (words_of q.part z)) (sym one) ∙ far ∙ three),
-      subst (λ (l : List ℕ). OneHistory opening c l (set qs id (noted_seat q 0 q.part))) (sym (set-get_or ws place 0)) (quiet opening c ws qs id q h at q.part record { seen = k.seen; told = k.told; logged = k.logged; known = k.known } (λ _. refl)),
+      subst (λ (l : List ℕ). OneHistory c l (set qs id (noted_seat q 0 q.part))) (sym (set-get_or ws place 0)) (quiet c ws qs id q h at q.part record { seen = k.seen; told = k.told; logged = k.logged; known = k.known } (λ _. refl)),
     )
 
 -- a store of a word of a cell that is held exclusively
-pub stores : (opening : Maps) (c : MapCargo) (id cell i place value cell' i' value' w' : ℕ) (q : Seat) → place ≡ cell * width c + i → cell ≡ cell' → i ≡ i' → value ≡ value' → width c ≡ w' → cell < c.cells → i < width c → mode_at q cell ≡ exclusive_mode
-    → Notes (OneHistory opening c) id q 0 place (λ _. value) (λ found p r. (r ≡ rewrote p cell' i' value') × (length (words_of p cell') ≡ w'))
-stores opening c id cell i place value cell' i' value' w' q is one two same three below small has ws qs h apart at in' fits =
+pub stores : (c : MapCargo) (id cell i place value cell' i' value' w' : ℕ) (q : Seat) → place ≡ cell * width c + i → cell ≡ cell' → i ≡ i' → value ≡ value' → width c ≡ w' → cell < c.cells → i < width c → mode_at q cell ≡ exclusive_mode
+    → Notes (OneHistory c) id q 0 place (λ _. value) (λ found p r. (r ≡ rewrote p cell' i' value') × (length (words_of p cell') ≡ w'))
+stores c id cell i place value cell' i' value' w' q is one two same three below small has ws qs h apart at in' fits =
     let k = h.knows id q at in let part : Part = rewrote q.part cell i value in let r : Seat = noted_seat q 0 part in
     let some' : mode_at q cell ≢ None = λ none. (let bad : None ≡ exclusive_mode = sym none ∙ has in cc) in let t = k.known cell below some' in
     let low : place < number_place c = subst (λ (z : ℕ). z < number_place c) (sym is) (inside c cell i below small) in
@@ -79,12 +79,12 @@ stores opening c id cell i place value cell' i' value' w' q is one two same thre
         room = omega (arith, total-set (λ (u : Seat). u.quota) qs id q r at, h.room);
         few = h.few;
         knows = λ j u e. ⊎_elim
-            (λ t. subst (Knows opening c h.entries ws') t.1 record {
+            (λ t. subst (Knows c h.entries ws') t.1 record {
               seen = k.seen;
               told = k.told;
               logged = λ w e has j small less. log w j ∙ k.logged w e has j small less;
               known = λ a near held. dite (ℕ_discrete a cell)
-                  (λ same. let F : ℕ → Type 0 = λ a. (words_of part a ≡ cell_words c ws' a) × (plain_of opening part a ≡ maps_after opening (queries h.entries) a) in
+                  (λ same. let F : ℕ → Type 0 = λ a. (words_of part a ≡ cell_words c ws' a) × (plain_of part a ≡ maps_after (first_maps c) (queries h.entries) a) in
                   subst F (sym same) (lookup_here [] q.part.words cell (set (words_of q.part cell) i value) ∙ sym here, (k.known cell below some').1))
                   (λ ne. let t = k.known a near held in (lookup_else [] q.part.words cell a (set (words_of q.part cell) i value) ne ∙ t.0 ∙ sym (else' a ne), t.1));
             })
@@ -98,6 +98,6 @@ stores opening c id cell i place value cell' i' value' w' q is one two same thre
         once = λ w below. total-same (λ (u : Seat). total (is_wrote w) u.part.told) qs id q r at refl ∙ h.once w below;
         calm = λ a near nobody.
             let ne : a ≢ cell = λ same. nobody id r (set_here qs id r (there qs id q at)) (subst (λ (z : ℕ). mode_at q z ≡ exclusive_mode) (sym same) has) in
-            subst (λ (l : List ℕ). Means l (maps_after opening (queries h.entries) a)) (sym (else' a ne)) (h.calm a near (each_back (λ (u : Seat). mode_at u a ≢ exclusive_mode) qs id q r at nobody (λ o. o)));
+            subst (λ (l : List ℕ). Means l (maps_after (first_maps c) (queries h.entries) a)) (sym (else' a ne)) (h.calm a near (each_back (λ (u : Seat). mode_at u a ≢ exclusive_mode) qs id q r at nobody (λ o. o)));
       },
     )

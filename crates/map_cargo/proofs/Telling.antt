@@ -25,6 +25,7 @@ use Rattle.map_cargo.specs.declared.entry.Told.{Told}
 use Rattle.map_cargo.specs.declared.entry.Told.TheVariants.{Wrote, Refused}
 use Rattle.map_cargo.specs.declared.entry.Part.{Part}
 use Rattle.map_cargo.specs.Entries.{named_cells}
+use Rattle.map_cargo.specs.Openings.{first_maps}
 use Rattle.map_cargo.specs.History.{Seat, IsRefusal, Knows, OneHistory, Stands, is_wrote, mode_at}
 use Rattle.map_cargo.specs.Laws.{each_set, each_back}
 use Rattle.map_cargo.specs.Licences.{BusyBy, LateBy, Licensed}
@@ -68,8 +69,8 @@ refusal_mark w query (Late now) h = refl
 refusal_mark w query (Job at result) h = absurd h
 
 -- a refusal is told
-pub refuses : (opening : Maps) (c : MapCargo) (id caller index : ℕ) (query : Query) (reply : Reply) (t : Told) (q : Seat) → Refused caller index query reply ≡ t → IsRefusal reply → NotesAside (OneHistory opening c) id q (λ found p r. r ≡ told_too p t)
-refuses opening c id caller index query reply t q is refusal ws qs h apart at found fits =
+pub refuses : (c : MapCargo) (id caller index : ℕ) (query : Query) (reply : Reply) (t : Told) (q : Seat) → Refused caller index query reply ≡ t → IsRefusal reply → NotesAside (OneHistory c) id q (λ found p r. r ≡ told_too p t)
+refuses c id caller index query reply t q is refusal ws qs h apart at found fits =
     let k = h.knows id q at in let part : Part = told_too q.part (Refused caller index query reply) in let r : Seat = learnt_seat q part in (
       part,
       (λ i. told_too q.part (is i)),
@@ -79,9 +80,9 @@ refuses opening c id caller index query reply t q is refusal ws qs h apart at fo
         number = h.number;
         room = subst (λ (n : ℕ). length h.entries + n ≤ c.writes) (sym (total-same (λ (u : Seat). u.quota) qs id q r at refl)) h.room;
         few = h.few;
-        knows = each_set (Knows opening c h.entries ws) qs id r h.knows record {
+        knows = each_set (Knows c h.entries ws) qs id r h.knows record {
           seen = k.seen;
-          told = λ u has. ⊎_elim (λ same. subst (Stands opening c.rows h.entries) (sym same) refusal) (k.told u) has;
+          told = λ u has. ⊎_elim (λ same. subst (Stands (first_maps c) c.rows h.entries) (sym same) refusal) (k.told u) has;
           logged = λ w x has j small less. ⊎_elim (λ same. absurd (let F : Told → Type 0 = λ u. elim u [ Wrote a b ↦ ⊥ | _ ↦ Unit {0} ] in subst F (sym same) tt)) (λ old. k.logged w x old j small less) has;
           known = k.known;
         };

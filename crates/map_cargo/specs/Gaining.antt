@@ -8,7 +8,6 @@ use Rattle.hall.specs.declared.view.Kind.{Kind}
 use Rattle.hall.specs.declared.view.Standing.{Standing}
 use Rattle.hall.specs.declared.view.Standing.TheVariants.{Away}
 use Rattle.hall.specs.Views.{standing, after_step, entry_of}
-use Rattle.query_rules.specs.Maps.{Maps}
 use Rattle.map_cargo.specs.declared.entry.Entry.{Entry}
 use Rattle.map_cargo.specs.declared.entry.Part.{Part}
 use Rattle.map_cargo.specs.Cells.{Means}
@@ -17,34 +16,33 @@ use Rattle.map_cargo.specs.Laws.{after_gain}
 use Rattle.map_cargo.specs.StepLaws.{more_then}
 use Rattle.map_cargo.specs.Steps.{Gained, MoreSteps, placed}
 
-module _ (opening : Maps) where
-  pub gained_by : (kind : Kind) (y : Standing) (v : View Part) (lock found : ℕ) (w : View Part) → (ws : List ℕ) × (part : Part) × Learns opening lock v.part part × (w ≡ after_step v kind lock found true y part) → Gained opening lock v w
-  gained_by kind y v lock found w t =
-      let a = after_gain opening lock v.part t.1 t.2 in subst (λ (z : View Part). Gained opening lock v z) (sym t.3) record {
-        settled = a.0;
-        words = λ k ne. (a.5 k ne).0;
-        plain = λ k ne. (a.5 k ne).1;
-        seen = a.2;
-        told = a.1;
-        row = a.3;
-        stored = a.4;
-        number = refl;
-        quota = refl;
-        span = refl;
-        taken = refl;
-        steps = record { added = entry_of v kind lock found true ∷ []; stand = refl };
-      }
+pub gained_by : (kind : Kind) (y : Standing) (v : View Part) (lock found : ℕ) (w : View Part) → (ws : List ℕ) × (part : Part) × Learns lock v.part part × (w ≡ after_step v kind lock found true y part) → Gained lock v w
+gained_by kind y v lock found w t =
+    let a = after_gain lock v.part t.1 t.2 in subst (λ (z : View Part). Gained lock v z) (sym t.3) record {
+      settled = a.0;
+      words = λ k ne. (a.5 k ne).0;
+      plain = λ k ne. (a.5 k ne).1;
+      seen = a.2;
+      told = a.1;
+      row = a.3;
+      stored = a.4;
+      number = refl;
+      quota = refl;
+      span = refl;
+      taken = refl;
+      steps = record { added = entry_of v kind lock found true ∷ []; stand = refl };
+    }
 
 -- a pass that is away from one lock and from each other is away from all
 pub everywhere : (v : View Part) (cell : ℕ) → standing v cell ≡ Away → ((k : ℕ) → k ≢ cell → standing v k ≡ Away) → (k : ℕ) → standing v k ≡ Away
 everywhere v cell here others k = dite (ℕ_discrete k cell) (λ same. subst (λ (i : ℕ). standing v i ≡ Away) (sym same) here) (others k)
 
 -- steps before a gain that left the part as it was don't matter
-pub gained_from : (opening : Maps) (lock : ℕ) (u v w : View Part) → u.part ≡ v.part → u.number ≡ v.number → u.quota ≡ v.quota → u.span ≡ v.span → u.taken ≡ v.taken → MoreSteps v u → Gained opening lock u w → Gained opening lock v w
-gained_from opening lock u v w part number quota span taken steps h = record {
+pub gained_from : (lock : ℕ) (u v w : View Part) → u.part ≡ v.part → u.number ≡ v.number → u.quota ≡ v.quota → u.span ≡ v.span → u.taken ≡ v.taken → MoreSteps v u → Gained lock u w → Gained lock v w
+gained_from lock u v w part number quota span taken steps h = record {
   settled = h.settled;
   words = λ k ne. h.words k ne ∙ ap (λ (p : Part). words_of p k) part;
-  plain = λ k ne. h.plain k ne ∙ ap (λ (p : Part). plain_of opening p k) part;
+  plain = λ k ne. h.plain k ne ∙ ap (λ (p : Part). plain_of p k) part;
   seen = h.seen ∙ ap (λ (p : Part). p.seen) part;
   told = h.told ∙ ap (λ (p : Part). p.told) part;
   row = h.row ∙ ap (λ (p : Part). p.row) part;
@@ -57,6 +55,6 @@ gained_from opening lock u v w part number quota span taken steps h = record {
 }
 
 -- a settled cell stays settled where the pass only places a read
-pub still_settled : (opening : Maps) (lock cell : ℕ) (p q r : Part) (n : ℕ) (e : Entry) → lock ≡ cell → q ≡ p → r ≡ placed q n e → IsSettled opening cell p → IsSettled opening lock r
-still_settled opening lock cell p q r n e at same is h =
-    subst (IsSettled opening lock) (sym (is ∙ ap (λ (z : Part). placed z n e) same)) (subst (λ (k : ℕ). Means (words_of p k) (plain_of opening p k)) (sym at) h)
+pub still_settled : (lock cell : ℕ) (p q r : Part) (n : ℕ) (e : Entry) → lock ≡ cell → q ≡ p → r ≡ placed q n e → IsSettled cell p → IsSettled lock r
+still_settled lock cell p q r n e at same is h =
+    subst (IsSettled lock) (sym (is ∙ ap (λ (z : Part). placed z n e) same)) (subst (λ (k : ℕ). Means (words_of p k) (plain_of p k)) (sym at) h)

@@ -15,9 +15,11 @@ use Rattle.map_cargo.specs.declared.size.MapCargo.{MapCargo}
 use Rattle.map_cargo.specs.declared.entry.Entry.{Entry}
 use Rattle.map_cargo.specs.declared.entry.Told.{Told}
 use Rattle.map_cargo.specs.declared.entry.Told.TheVariants.{Wrote, Read, Refused}
+use Rattle.map_cargo.specs.declared.entry.Made.{Made}
 use Rattle.map_cargo.specs.declared.entry.Part.{Part}
 use Rattle.map_cargo.specs.Cells.{number_place, log_place, word_count, cell_words, Means, lookup}
 use Rattle.map_cargo.specs.Entries.{queries, log_words}
+use Rattle.map_cargo.specs.Openings.{first_maps, map_made, unmade}
 
 abbrev pub Seat : Type 0
 Seat = CargoSeat Part
@@ -53,22 +55,22 @@ words_of p cell = lookup [] p.words cell
 abbrev pub IsRested : Part → Type 0
 IsRested p = p.stored ≡ 8
 
--- a pass that gained a mode at a lock knows the words of its cell, and the writes that made its plain map
-abbrev pub learnt : Part → ℕ → List ℕ → List Query → Part
-learnt p lock words writes = record { words = (lock, words) ∷ p.words; writes = (lock, writes) ∷ p.writes; seen = p.seen; told = p.told; row = p.row; stored = p.stored }
+-- a pass that gained a mode at a lock knows the words of its cell, and what made its plain map
+abbrev pub learnt : Part → ℕ → List ℕ → Made → Part
+learnt p lock words made = record { words = (lock, words) ∷ p.words; made = (lock, made) ∷ p.made; seen = p.seen; told = p.told; row = p.row; stored = p.stored }
 
 abbrev pub first_part : Part
-first_part = record { words = []; writes = []; seen = 0; told = []; row = 0; stored = 8 }
+first_part = record { words = []; made = []; seen = 0; told = []; row = 0; stored = 8 }
 
 -- the part of a new pass: it has seen what the old one has seen
 abbrev pub split_part : Part → Part
-split_part p = record { words = []; writes = []; seen = p.seen; told = []; row = 0; stored = 8 }
+split_part p = record { words = []; made = []; seen = p.seen; told = []; row = 0; stored = 8 }
 
 abbrev pub max_of : ℕ → ℕ → ℕ
 max_of a b = cond (nat_lt a b) b a
 
 abbrev pub joined_part : Part → Part → Part
-joined_part p r = record { words = p.words; writes = p.writes; seen = max_of p.seen r.seen; told = r.told ++ p.told; row = p.row; stored = p.stored }
+joined_part p r = record { words = p.words; made = p.made; seen = max_of p.seen r.seen; told = r.told ++ p.told; row = p.row; stored = p.stored }
 
 -- the maps before the first write
 module _ (opening : Maps) where
@@ -96,36 +98,36 @@ module _ (opening : Maps) where
   Stands rows entries (Read w e) = ReadAfter rows entries w e
   Stands rows entries (Refused caller index query reply) = IsRefusal reply
 
-  -- the plain maps of the cells that a pass holds, as it knows them
-  abbrev pub plain_of : Part → Maps
-  plain_of p cell = maps_after opening (lookup [] p.writes cell) cell
+-- the plain maps of the cells that a pass holds, as it knows them
+abbrev pub plain_of : Part → Maps
+plain_of p cell = map_made (lookup unmade p.made cell) cell
 
-  -- what one pass knows is so
-  pub record Knows (c : MapCargo) (entries : List Entry) (ws : List ℕ) (q : Seat) : Type 0 where
-    pub seen : q.part.seen ≤ length entries
-    pub told : (t : Told) → Has q.part.told t → Stands c.rows entries t
-    -- its log rows hold their entries' words, as far as it has stored them
-    pub logged : (w : ℕ) (e : Entry) → Has q.part.told (Wrote w e) → (j : ℕ) → j < 8 → j < stored q.part w → slice_index ws (log_place c w j) ≡ slice_index (log_words e) j
-    -- of a cell that it holds it knows the words and the plain map
-    pub known : (cell : ℕ) → cell < c.cells → mode_at q cell ≢ None → (words_of q.part cell ≡ cell_words c ws cell) × (plain_of q.part cell ≡ maps_after opening (queries entries) cell)
+-- what one pass knows is so
+pub record Knows (c : MapCargo) (entries : List Entry) (ws : List ℕ) (q : Seat) : Type 0 where
+  pub seen : q.part.seen ≤ length entries
+  pub told : (t : Told) → Has q.part.told t → Stands (first_maps c) c.rows entries t
+  -- its log rows hold their entries' words, as far as it has stored them
+  pub logged : (w : ℕ) (e : Entry) → Has q.part.told (Wrote w e) → (j : ℕ) → j < 8 → j < stored q.part w → slice_index ws (log_place c w j) ≡ slice_index (log_words e) j
+  -- of a cell that it holds it knows the words and the plain map
+  pub known : (cell : ℕ) → cell < c.cells → mode_at q cell ≢ None → (words_of q.part cell ≡ cell_words c ws cell) × (plain_of q.part cell ≡ maps_after (first_maps c) (queries entries) cell)
 
-  -- There is one list of writes: the number word counts them, each pass knows what is so of it, each write is in one pass's replies, and a cell that nobody holds exclusively has its plain map
-  pub record OneHistory (c : MapCargo) (ws : List ℕ) (qs : List Seat) : Type 0 where
-    -- the newest first
-    pub entries : List Entry
-    pub size : length ws ≡ word_count c
-    pub number : slice_index ws (number_place c) ≡ length entries
-    -- all quotas can still be drawn
-    pub room : length entries + total (λ q. q.quota) qs ≤ c.writes
-    pub few : c.writes < 2 ^ 64
-    pub knows : Each (Knows c entries ws) qs
-    pub once : (w : ℕ) → w < length entries → total (λ q. total (is_wrote w) q.part.told) qs ≡ 1
-    pub calm : (cell : ℕ) → cell < c.cells → Each (λ q. mode_at q cell ≢ exclusive_mode) qs → Means (cell_words c ws cell) (maps_after opening (queries entries) cell)
+-- There is one list of writes: the number word counts them, each pass knows what is so of it, each write is in one pass's replies, and a cell that nobody holds exclusively has its plain map
+pub record OneHistory (c : MapCargo) (ws : List ℕ) (qs : List Seat) : Type 0 where
+  -- the newest first
+  pub entries : List Entry
+  pub size : length ws ≡ word_count c
+  pub number : slice_index ws (number_place c) ≡ length entries
+  -- all quotas can still be drawn
+  pub room : length entries + total (λ q. q.quota) qs ≤ c.writes
+  pub few : c.writes < 2 ^ 64
+  pub knows : Each (Knows c entries ws) qs
+  pub once : (w : ℕ) → w < length entries → total (λ q. total (is_wrote w) q.part.told) qs ≡ 1
+  pub calm : (cell : ℕ) → cell < c.cells → Each (λ q. mode_at q cell ≢ exclusive_mode) qs → Means (cell_words c ws cell) (maps_after (first_maps c) (queries entries) cell)
 
-  -- what is known of a cell after a gain: its words mean its plain map
-  abbrev pub Learns : ℕ → Part → Part → Type 0
-  Learns lock p q = (words : List ℕ) × (writes : List Query) × Means words (maps_after opening writes lock) × (q ≡ learnt p lock words writes)
+-- what is known of a cell after a gain: its words mean its plain map
+abbrev pub Learns : ℕ → Part → Part → Type 0
+Learns lock p q = (words : List ℕ) × (made : Made) × Means words (map_made made lock) × (q ≡ learnt p lock words made)
 
-  -- the cell's words mean its plain map
-  abbrev pub IsSettled : ℕ → Part → Type 0
-  IsSettled lock p = Means (words_of p lock) (plain_of p lock)
+-- the cell's words mean its plain map
+abbrev pub IsSettled : ℕ → Part → Type 0
+IsSettled lock p = Means (words_of p lock) (plain_of p lock)

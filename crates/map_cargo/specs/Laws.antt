@@ -13,17 +13,18 @@ use Rattle.lock_model.specs.Locks.{Has}
 use Rattle.lock_model.specs.declared.model.Mode.{Mode}
 use Rattle.lock_model.specs.declared.model.Mode.TheVariants.{Shared, Upgrade, Exclusive}
 use Rattle.hall.specs.Cargo.{Together, Compatible, Lowers, upgrade_mode, exclusive_mode, changed_seat, split_seat, joined_seat, spent_seat}
-use Rattle.query_rules.specs.declared.query.Query.{Query}
-use Rattle.query_rules.specs.Maps.{PlainMap, Maps, no_keys, no_entries}
+use Rattle.query_rules.specs.Maps.{PlainMap, no_keys}
 use Rattle.query_rules.specs.History.{maps_after}
 use Rattle.map_cargo.specs.declared.size.MapCargo.{MapCargo}
 use Rattle.map_cargo.specs.declared.entry.Entry.{Entry}
 use Rattle.map_cargo.specs.declared.entry.Told.{Told}
 use Rattle.map_cargo.specs.declared.entry.Told.TheVariants.{Wrote}
+use Rattle.map_cargo.specs.declared.entry.Made.{Made}
 use Rattle.map_cargo.specs.declared.entry.Part.{Part}
 use Rattle.map_cargo.specs.Cells.{width, number_place, log_place, word_count, cell_words, AreRowsOf, Means, lookup}
 use Rattle.map_cargo.specs.Entries.{queries, log_words}
 use Rattle.map_cargo.specs.Rows.{rows_in, used_at, IsUsed, sum_of_rows}
+use Rattle.map_cargo.specs.Openings.{opening_in, first_maps, map_made, unmade}
 use Rattle.map_cargo.specs.History.{Seat, Stands, is_wrote, stored, mode_at, words_of, plain_of, Knows, Each, OneHistory, learnt, Learns, IsSettled, IsRested, first_part, split_part, joined_part, max_of}
 
 module _ {A : Type 0} (d : A) where
@@ -90,17 +91,17 @@ all_stored p w is = elim (eqb p.row w) as (λ b. cond b p.stored 8 ≡ 8) [ true
 
 -- the law of the start, where no map has a key
 pub starts : (c : MapCargo) (ws : List ℕ) (q : Seat) (quota : ℕ) → length ws ≡ word_count c → ((k : ℕ) → slice_index ws k ≡ 0) → ((lock : ℕ) → slice_index_or q.modes lock None ≡ None) → (quota ≤ c.writes) × (c.writes < 2 ^ 64) → q.quota ≡ quota → q.part ≡ first_part
-    → OneHistory no_entries c ws (q ∷ [])
+    → OneHistory c ws (q ∷ [])
 starts c ws q quota size none off admits quota_is part_is = record {
   entries = [];
   size = size;
   number = none (number_place c);
   room = (let a = admits.0 in omega arith);
   few = admits.1;
-  knows = λ j r e. elim j as (λ i. get_elem? (q ∷ []) i ≡ some r → Knows no_entries c [] ws r) [
-    | zero ↦ λ e. subst (Knows no_entries c [] ws) (some-injective q r e) record {
+  knows = λ j r e. elim j as (λ i. get_elem? (q ∷ []) i ≡ some r → Knows c [] ws r) [
+    | zero ↦ λ e. subst (Knows c [] ws) (some-injective q r e) record {
       seen = subst (λ (p : Part). p.seen ≤ 0) (sym part_is) (omega arith);
-      told = subst (λ (p : Part). (t : Told) → Has p.told t → Stands no_entries c.rows [] t) (sym part_is) (λ t bad. absurd bad);
+      told = subst (λ (p : Part). (t : Told) → Has p.told t → Stands (first_maps c) c.rows [] t) (sym part_is) (λ t bad. absurd bad);
       logged = subst (λ (p : Part). (w : ℕ) (e : Entry) → Has p.told (Wrote w e) → (j : ℕ) → j < 8 → j < stored p w → slice_index ws (log_place c w j) ≡ slice_index (log_words e) j) (sym part_is) (λ w e bad. absurd bad);
       known = λ cell below has. absurd (has (off cell));
     }
@@ -110,28 +111,28 @@ starts c ws q quota size none off admits quota_is part_is = record {
   calm = λ cell below nobody. empty (cell_words c ws cell) (λ i low. zero_words (width c) ws (cell * width c) i none (let l = length-take (width c) (drop (cell * width c) ws) in omega (arith, l))) (zero_words (width c) ws (cell * width c) 0 none (omega arith));
 }
 
-module _ (opening : Maps) (c : MapCargo) where
-  module _ (ws : List ℕ) (qs : List Seat) (id lock : ℕ) (m : Option Mode) (q : Seat) (h : OneHistory opening c ws qs) (at : get_elem? qs id ≡ some q) where
+module _ (c : MapCargo) where
+  module _ (ws : List ℕ) (qs : List Seat) (id lock : ℕ) (m : Option Mode) (q : Seat) (h : OneHistory c ws qs) (at : get_elem? qs id ≡ some q) where
     abbrev now : ℕ → PlainMap
-    now cell = maps_after opening (queries h.entries) cell
+    now cell = maps_after (first_maps c) (queries h.entries) cell
 
-    gained : (free : mode_at q lock ≡ None) (words : List ℕ) (writes : List Query) → (lock < c.cells → (words ≡ cell_words c ws lock) × (maps_after opening writes lock ≡ now lock))
-        → OneHistory opening c ws (slice_set qs id (changed_seat q lock m (learnt q.part lock words writes)))
-    gained free words writes are =
-        let r : Seat = changed_seat q lock m (learnt q.part lock words writes) in let k = h.knows id q at in record {
+    gained : (free : mode_at q lock ≡ None) (words : List ℕ) (made : Made) → (lock < c.cells → (words ≡ cell_words c ws lock) × (map_made made lock ≡ now lock))
+        → OneHistory c ws (slice_set qs id (changed_seat q lock m (learnt q.part lock words made)))
+    gained free words made are =
+        let r : Seat = changed_seat q lock m (learnt q.part lock words made) in let k = h.knows id q at in record {
           entries = h.entries;
           size = h.size;
           number = h.number;
           room = subst (λ (n : ℕ). length h.entries + n ≤ c.writes) (sym (total-same (λ (u : Seat). u.quota) qs id q r at refl)) h.room;
           few = h.few;
-          knows = each_set (Knows opening c h.entries ws) qs id r h.knows record {
+          knows = each_set (Knows c h.entries ws) qs id r h.knows record {
             seen = k.seen;
             told = k.told;
             logged = k.logged;
             known = λ cell below has. dite (ℕ_discrete cell lock)
-                (λ same. let F : ℕ → Type 0 = λ i. (lookup [] ((lock, words) ∷ q.part.words) i ≡ cell_words c ws i) × (maps_after opening (lookup [] ((lock, writes) ∷ q.part.writes) i) i ≡ now i) in
-                let t = are (subst (λ (i : ℕ). i < c.cells) same below) in subst F (sym same) (lookup_here [] q.part.words lock words ∙ t.0, ap (λ (l : List Query). maps_after opening l lock) (lookup_here [] q.part.writes lock writes) ∙ t.1))
-                (λ ne. let t = k.known cell below (λ none. has (get_or-set_other q.modes lock cell m None ne ∙ none)) in (lookup_else [] q.part.words lock cell words ne ∙ t.0, ap (λ (l : List Query). maps_after opening l cell) (lookup_else [] q.part.writes lock cell writes ne) ∙ t.1));
+                (λ same. let F : ℕ → Type 0 = λ i. (lookup [] ((lock, words) ∷ q.part.words) i ≡ cell_words c ws i) × (map_made (lookup unmade ((lock, made) ∷ q.part.made) i) i ≡ now i) in
+                let t = are (subst (λ (i : ℕ). i < c.cells) same below) in subst F (sym same) (lookup_here [] q.part.words lock words ∙ t.0, ap (λ (x : Made). map_made x lock) (lookup_here unmade q.part.made lock made) ∙ t.1))
+                (λ ne. let t = k.known cell below (λ none. has (get_or-set_other q.modes lock cell m None ne ∙ none)) in (lookup_else [] q.part.words lock cell words ne ∙ t.0, ap (λ (x : Made). map_made x cell) (lookup_else unmade q.part.made lock cell made ne) ∙ t.1));
           };
           once = λ w below. total-same (λ (u : Seat). total (is_wrote w) u.part.told) qs id q r at refl ∙ h.once w below;
           calm = λ cell below nobody. h.calm cell below (each_back (λ (u : Seat). mode_at u cell ≢ exclusive_mode) qs id q r at nobody (λ off e. dite (ℕ_discrete cell lock)
@@ -140,23 +141,23 @@ module _ (opening : Maps) (c : MapCargo) where
         }
 
     -- the law of a gain; at a lock that guards no cell there is nothing to know
-    pub gain_keeps : ((cell : ℕ) → c.cells ≤ cell → opening cell ≡ no_keys) → slice_index_or q.modes lock None ≡ None → m ≢ None → Compatible qs id lock m
-        → (part : Part) × Learns opening lock q.part part × OneHistory opening c ws (slice_set qs id (changed_seat q lock m part))
-    gain_keeps beyond free some' fits = dite (dec_lt lock c.cells)
+    pub gain_keeps : slice_index_or q.modes lock None ≡ None → m ≢ None → Compatible qs id lock m
+        → (part : Part) × Learns lock q.part part × OneHistory c ws (slice_set qs id (changed_seat q lock m part))
+    gain_keeps free some' fits = dite (dec_lt lock c.cells)
         (λ below.
-        let words : List ℕ = cell_words c ws lock in let writes : List Query = queries h.entries in
+        let words : List ℕ = cell_words c ws lock in let made : Made = record { opening = opening_in c; writes = queries h.entries } in
         let means : Means words (now lock) = h.calm lock below (λ j u e. dite (ℕ_discrete j id)
         (λ same w. let is : q ≡ u = one_there qs id q u at (subst (λ (i : ℕ). get_elem? qs i ≡ some u) same e) in let bad : None ≡ exclusive_mode = sym free ∙ ap (λ (z : Seat). mode_at z lock) is ∙ w in cc)
         (λ ne. not_beside m (mode_at u lock) some' (fits j u e ne))) in
-        (learnt q.part lock words writes, (words, writes, means, refl), gained free words writes (λ _. (refl, refl))))
+        (learnt q.part lock words made, (words, made, means, refl), gained free words made (λ _. (refl, refl))))
         (λ far. (
-          learnt q.part lock [] [],
-          ([], [], subst (Means []) (sym (beyond lock (omega arith))) (empty [] (λ i low. refl) refl), refl),
-          gained free [] [] (λ below. absurd (far below)),
+          learnt q.part lock [] unmade,
+          ([], unmade, empty [] (λ i low. refl) refl, refl),
+          gained free [] unmade (λ below. absurd (far below)),
         ))
 
     -- the law of a loss
-    pub lower_keeps : Lowers (slice_index_or q.modes lock None) m → (slice_index_or q.modes lock None ≡ exclusive_mode → IsSettled opening lock q.part) → OneHistory opening c ws (slice_set qs id (changed_seat q lock m q.part))
+    pub lower_keeps : Lowers (slice_index_or q.modes lock None) m → (slice_index_or q.modes lock None ≡ exclusive_mode → IsSettled lock q.part) → OneHistory c ws (slice_set qs id (changed_seat q lock m q.part))
     lower_keeps down settled =
         let r : Seat = changed_seat q lock m q.part in let k = h.knows id q at in
         let held : mode_at q lock ≢ None = λ none. subst (λ (z : Option Mode). Lowers z m) none down in
@@ -166,7 +167,7 @@ module _ (opening : Maps) (c : MapCargo) where
           number = h.number;
           room = subst (λ (n : ℕ). length h.entries + n ≤ c.writes) (sym (total-same (λ (u : Seat). u.quota) qs id q r at refl)) h.room;
           few = h.few;
-          knows = each_set (Knows opening c h.entries ws) qs id r h.knows record {
+          knows = each_set (Knows c h.entries ws) qs id r h.knows record {
             seen = k.seen;
             told = k.told;
             logged = k.logged;
@@ -185,8 +186,8 @@ module _ (opening : Maps) (c : MapCargo) where
         }
 
   -- the law of a raise
-  pub raise_keeps : (ws : List ℕ) (qs : List Seat) (id lock : ℕ) (q : Seat) → OneHistory opening c ws qs → get_elem? qs id ≡ some q → slice_index_or q.modes lock None ≡ upgrade_mode → Compatible qs id lock exclusive_mode
-      → OneHistory opening c ws (slice_set qs id (changed_seat q lock exclusive_mode q.part))
+  pub raise_keeps : (ws : List ℕ) (qs : List Seat) (id lock : ℕ) (q : Seat) → OneHistory c ws qs → get_elem? qs id ≡ some q → slice_index_or q.modes lock None ≡ upgrade_mode → Compatible qs id lock exclusive_mode
+      → OneHistory c ws (slice_set qs id (changed_seat q lock exclusive_mode q.part))
   raise_keeps ws qs id lock q h at up fits =
       let r : Seat = changed_seat q lock exclusive_mode q.part in let k = h.knows id q at in record {
         entries = h.entries;
@@ -194,7 +195,7 @@ module _ (opening : Maps) (c : MapCargo) where
         number = h.number;
         room = subst (λ (n : ℕ). length h.entries + n ≤ c.writes) (sym (total-same (λ (u : Seat). u.quota) qs id q r at refl)) h.room;
         few = h.few;
-        knows = each_set (Knows opening c h.entries ws) qs id r h.knows record {
+        knows = each_set (Knows c h.entries ws) qs id r h.knows record {
           seen = k.seen;
           told = k.told;
           logged = k.logged;
@@ -209,8 +210,8 @@ module _ (opening : Maps) (c : MapCargo) where
       }
 
   -- the law of a split
-  pub split_keeps : (ws : List ℕ) (qs : List Seat) (id number left right : ℕ) (modes : List (Option Mode)) (q : Seat) → OneHistory opening c ws qs → get_elem? qs id ≡ some q → q.quota ≡ left + right → ((lock : ℕ) → slice_index_or modes lock None ≡ None)
-      → OneHistory opening c ws (slice_set qs id (split_seat q left q.part) ++ record { number = number; quota = right; modes = modes; part = split_part q.part } ∷ [])
+  pub split_keeps : (ws : List ℕ) (qs : List Seat) (id number left right : ℕ) (modes : List (Option Mode)) (q : Seat) → OneHistory c ws qs → get_elem? qs id ≡ some q → q.quota ≡ left + right → ((lock : ℕ) → slice_index_or modes lock None ≡ None)
+      → OneHistory c ws (slice_set qs id (split_seat q left q.part) ++ record { number = number; quota = right; modes = modes; part = split_part q.part } ∷ [])
   split_keeps ws qs id number left right modes q h at sum off =
       let r : Seat = split_seat q left q.part in let n : Seat = record { number = number; quota = right; modes = modes; part = split_part q.part } in
       let k = h.knows id q at in let rs : List Seat = slice_set qs id r in record {
@@ -220,16 +221,16 @@ module _ (opening : Maps) (c : MapCargo) where
         room = omega (arith, total-append (λ (u : Seat). u.quota) rs (n ∷ []), total-set (λ (u : Seat). u.quota) qs id q r at, h.room);
         few = h.few;
         knows = λ j u e. ⊎_elim
-            (λ e. each_set (Knows opening c h.entries ws) qs id r h.knows record { seen = k.seen; told = k.told; logged = k.logged; known = k.known } j u e)
-            (λ e. subst (Knows opening c h.entries ws) e record { seen = k.seen; told = λ t bad. absurd bad; logged = λ w e bad. absurd bad; known = λ cell below has. absurd (has (off cell)) })
+            (λ e. each_set (Knows c h.entries ws) qs id r h.knows record { seen = k.seen; told = k.told; logged = k.logged; known = k.known } j u e)
+            (λ e. subst (Knows c h.entries ws) e record { seen = k.seen; told = λ t bad. absurd bad; logged = λ w e bad. absurd bad; known = λ cell below has. absurd (has (off cell)) })
             (at_snoc rs n u j e);
         once = λ w below. omega (arith, total-append (λ (u : Seat). total (is_wrote w) u.part.told) rs (n ∷ []), total-same (λ (u : Seat). total (is_wrote w) u.part.told) qs id q r at refl, h.once w below);
         calm = λ cell below nobody. h.calm cell below (each_back (λ (u : Seat). mode_at u cell ≢ exclusive_mode) qs id q r at (λ j u e. nobody j u (at_longer rs (n ∷ []) j u e)) (λ o. o));
       }
 
   -- the law of a join
-  pub join_keeps : (ws : List ℕ) (qs : List Seat) (id other : ℕ) (q r : Seat) → OneHistory opening c ws qs → get_elem? qs id ≡ some q → get_elem? qs other ≡ some r → other ≢ id → ((lock : ℕ) → slice_index_or r.modes lock None ≡ None) → IsRested r.part
-      → OneHistory opening c ws (slice_set (slice_set qs id (joined_seat q r (joined_part q.part r.part))) other (spent_seat first_part))
+  pub join_keeps : (ws : List ℕ) (qs : List Seat) (id other : ℕ) (q r : Seat) → OneHistory c ws qs → get_elem? qs id ≡ some q → get_elem? qs other ≡ some r → other ≢ id → ((lock : ℕ) → slice_index_or r.modes lock None ≡ None) → IsRested r.part
+      → OneHistory c ws (slice_set (slice_set qs id (joined_seat q r (joined_part q.part r.part))) other (spent_seat first_part))
   join_keeps ws qs id other q r h at at' ne off rested =
       let b : Seat = joined_seat q r (joined_part q.part r.part) in let n : Seat = spent_seat first_part in let rs : List Seat = slice_set qs id b in
       let still : get_elem? rs other ≡ some r = set_else qs id other b ne ∙ at' in
@@ -239,8 +240,8 @@ module _ (opening : Maps) (c : MapCargo) where
         number = h.number;
         room = omega (arith, total-set (λ (u : Seat). u.quota) qs id q b at, total-set (λ (u : Seat). u.quota) rs other r n still, h.room);
         few = h.few;
-        knows = each_set (Knows opening c h.entries ws) rs other n
-            (each_set (Knows opening c h.entries ws) qs id b h.knows record {
+        knows = each_set (Knows c h.entries ws) rs other n
+            (each_set (Knows c h.entries ws) qs id b h.knows record {
               seen = max_below q.part.seen r.part.seen (length h.entries) k.seen l.seen;
               told = λ t has. ⊎_elim (l.told t) (k.told t) (Has-split r.part.told q.part.told t has);
               logged = λ w e has j small less. ⊎_elim (λ o. l.logged w e o j small (subst (λ (n : ℕ). j < n) (sym (all_stored r.part w rested)) small)) (λ o. k.logged w e o j small less) (Has-split r.part.told q.part.told (Wrote w e) has);
@@ -253,18 +254,17 @@ module _ (opening : Maps) (c : MapCargo) where
             (each_back (λ (u : Seat). mode_at u cell ≢ exclusive_mode) rs other r n still nobody (λ _ e. let bad : None ≡ exclusive_mode = sym (off cell) ∙ e in cc)) (λ o. o));
       }
 
-module _ (opening : Maps) where
-  -- what a pass has after it gained a mode at a lock
-  pub after_gain : (lock : ℕ) (p q : Part) → Learns opening lock p q → IsSettled opening lock q × (q.told ≡ p.told) × (q.seen ≡ p.seen) × (q.row ≡ p.row) × (q.stored ≡ p.stored) × ((k : ℕ) → k ≢ lock → (words_of q k ≡ words_of p k) × (plain_of opening q k ≡ plain_of opening p k))
-  after_gain lock p q t =
-      subst (λ (z : Part). IsSettled opening lock z × (z.told ≡ p.told) × (z.seen ≡ p.seen) × (z.row ≡ p.row) × (z.stored ≡ p.stored) × ((k : ℕ) → k ≢ lock → (words_of z k ≡ words_of p k) × (plain_of opening z k ≡ plain_of opening p k))) (sym t.3) (
-        subst (λ (l : List Query). Means (words_of (learnt p lock t.0 t.1) lock) (maps_after opening l lock)) (sym (lookup_here [] p.writes lock t.1)) (subst (λ (l : List ℕ). Means l (maps_after opening t.1 lock)) (sym (lookup_here [] p.words lock t.0)) t.2),
-        refl,
-        refl,
-        refl,
-        refl,
-        λ k ne. (lookup_else [] p.words lock k t.0 ne, ap (λ (l : List Query). maps_after opening l k) (lookup_else [] p.writes lock k t.1 ne)),
-      )
+-- what a pass has after it gained a mode at a lock
+pub after_gain : (lock : ℕ) (p q : Part) → Learns lock p q → IsSettled lock q × (q.told ≡ p.told) × (q.seen ≡ p.seen) × (q.row ≡ p.row) × (q.stored ≡ p.stored) × ((k : ℕ) → k ≢ lock → (words_of q k ≡ words_of p k) × (plain_of q k ≡ plain_of p k))
+after_gain lock p q t =
+    subst (λ (z : Part). IsSettled lock z × (z.told ≡ p.told) × (z.seen ≡ p.seen) × (z.row ≡ p.row) × (z.stored ≡ p.stored) × ((k : ℕ) → k ≢ lock → (words_of z k ≡ words_of p k) × (plain_of z k ≡ plain_of p k))) (sym t.3) (
+      subst (λ (x : Made). Means (words_of (learnt p lock t.0 t.1) lock) (map_made x lock)) (sym (lookup_here unmade p.made lock t.1)) (subst (λ (l : List ℕ). Means l (map_made t.1 lock)) (sym (lookup_here [] p.words lock t.0)) t.2),
+      refl,
+      refl,
+      refl,
+      refl,
+      λ k ne. (lookup_else [] p.words lock k t.0 ne, ap (λ (x : Made). map_made x k) (lookup_else unmade p.made lock k t.1 ne)),
+    )
 
 each_cons : (F : Seat → Type 0) (q : Seat) (qs : List Seat) → F q → Each F qs → Each F (q ∷ qs)
 each_cons F q qs one all zero u e = subst F (some-injective q u e) one
@@ -279,10 +279,10 @@ exclusive_or cell (q ∷ qs) = ⊎_elim
     (is_exclusive (mode_at q cell))
 
 -- a cell that no unsettled pass holds exclusively has its plain map
-pub settled_cells : (opening : Maps) (c : MapCargo) (ws : List ℕ) (qs : List Seat) (h : OneHistory opening c ws qs) (cell : ℕ) → cell < c.cells → Each (λ q. mode_at q cell ≡ exclusive_mode → IsSettled opening cell q.part) qs
-    → Means (cell_words c ws cell) (maps_after opening (queries h.entries) cell)
-settled_cells opening c ws qs h cell below settled = ⊎_elim
+pub settled_cells : (c : MapCargo) (ws : List ℕ) (qs : List Seat) (h : OneHistory c ws qs) (cell : ℕ) → cell < c.cells → Each (λ q. mode_at q cell ≡ exclusive_mode → IsSettled cell q.part) qs
+    → Means (cell_words c ws cell) (maps_after (first_maps c) (queries h.entries) cell)
+settled_cells c ws qs h cell below settled = ⊎_elim
     (λ nobody. h.calm cell below nobody)
     (λ t. let has : mode_at t.1 cell ≢ None = λ none. (let bad : None ≡ exclusive_mode = sym none ∙ t.3 in cc) in let k = (h.knows t.0 t.1 t.2).known cell below has in
-    subst (λ (l : List ℕ). Means l (maps_after opening (queries h.entries) cell)) k.0 (subst (λ (m : PlainMap). Means (words_of t.1.part cell) m) k.1 (settled t.0 t.1 t.2 t.3)))
+    subst (λ (l : List ℕ). Means l (maps_after (first_maps c) (queries h.entries) cell)) k.0 (subst (λ (m : PlainMap). Means (words_of t.1.part cell) m) k.1 (settled t.0 t.1 t.2 t.3)))
     (exclusive_or cell qs)

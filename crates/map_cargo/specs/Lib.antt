@@ -1,5 +1,6 @@
 pub mod Cells
 pub mod Entries
+pub mod Openings
 pub mod History
 pub mod Laws
 pub mod Steps

@@ -26,7 +26,7 @@ pub fn close(hall: Hall<MapCargo>, pass: Pass<MapCargo>) -> Closed<MapCargo>
     ensures words { length (closed_words result) ≡ (shape_of hall).words }
     ensures carried { closed_cargo result ≡ cargo_of hall }
     ensures known { closing_view result ≡ view pass }
-    ensures ended { Ended no_entries (cargo_of hall) (closed_words result) (view pass).part (width (view pass) ≡ (shape_of hall).seats) }
+    ensures ended { Ended (cargo_of hall) (closed_words result) (view pass).part (width (view pass) ≡ (shape_of hall).seats) }
     ensures met { width (view pass) ≡ (shape_of hall).seats → MetWhoRefused (shape_of hall) (view pass).steps (view pass).trail }
     ensures legal { width (view pass) ≡ (shape_of hall).seats → IsLegal (cargo_of hall).rows no_entries (map as_reply (view pass).part.told) }
 {

@@ -35,12 +35,20 @@ pub enum Told {
     },
 }
 
+/// What made plain maps: how they began, and the writes since then. No value of this type is made by the code: it is for the proofs.
+pub struct Made {
+    /// By cell, the pairs with which its map began. A cell behind the end began empty.
+    pub opening: LinkedList<LinkedList<(u64, u64)>>,
+    /// The newest first.
+    pub writes: LinkedList<Query>,
+}
+
 /// What a pass knows of the maps. No value of this type is made by the code: it is for the proofs.
 pub struct Part {
     /// By cell, the words of each cell that it holds. The newest first.
     pub words: LinkedList<(u64, LinkedList<u64>)>,
-    /// By cell, the writes that made the plain map of each cell that it holds. The newest first, both ways.
-    pub writes: LinkedList<(u64, LinkedList<Query>)>,
+    /// By cell, what made the plain map of each cell that it holds. The newest first.
+    pub made: LinkedList<(u64, Made)>,
     /// The greatest number of writes that it knows to be drawn.
     pub seen: u64,
     /// Its own replies, and those of passes that it took in. The newest first.

@@ -5,7 +5,6 @@ ghost use Rattle.hall.specs.declared.view.Kind.TheVariants.{LoadCargo, StoreCarg
 ghost use Rattle.lock_model.specs.Locks.{Has};
 ghost use Rattle.query_rules.specs.declared.query.Query.TheVariants.{Audit};
 ghost use Rattle.query_rules.specs.declared.query.Said.TheVariants.{Absent};
-ghost use Rattle.query_rules.specs.Maps.{no_entries};
 ghost use Rattle.map_cargo.specs.declared.entry.Entry.{Entry};
 ghost use Rattle.map_cargo.specs.declared.entry.Told.TheVariants as told;
 ghost use Rattle.map_cargo.specs.Cells.{log_place, number_place};
@@ -43,7 +42,7 @@ pub(crate) struct Draws<K> {
 }
 
 impl<K: Line> Note<MapCargo> for Draws<K> {
-    ghost becomes = { λ found p q. Drew no_entries 0 p q found K.entry × (found < K.writes) };
+    ghost becomes = { λ found p q. Drew 0 p q found K.entry × (found < K.writes) };
 }
 
 pub(crate) struct Logs<K> {
@@ -100,11 +99,11 @@ fn draw_by<K: Line>(hall: &Hall<MapCargo>, pass: &mut Pass<MapCargo>, entry: &En
     requires pass { IsPassOf hall.now pass.old }
     requires suits { Suits hall.now }
     requires entry { (entry.now ≡ K.entry) × ((cargo_of hall.now).writes ≡ K.writes) }
-    requires may { MayDraw no_entries (cargo_of hall.now) (view pass.old) entry.now }
+    requires may { MayDraw (cargo_of hall.now) (view pass.old) entry.now }
     requires quota { 0 < (view pass.old).quota }
     ensures pass { IsPassOf hall.now pass.new × Stays (view pass.old) (view pass.new) }
     ensures quota { (view pass.new).quota + 1 ≡ (view pass.old).quota }
-    ensures drew { Drew no_entries 0 (view pass.old).part (view pass.new).part result entry.now }
+    ensures drew { Drew 0 (view pass.old).part (view pass.new).part result entry.now }
     ensures number { result < (cargo_of hall.now).writes }
     ensures step { (view pass.new).steps ≡ cargo_step (view pass.old) AddCargo (number_place (cargo_of hall.now)) result true ∷ (view pass.old).steps }
 {
@@ -115,11 +114,11 @@ fn draw_by<K: Line>(hall: &Hall<MapCargo>, pass: &mut Pass<MapCargo>, entry: &En
 fn draw_number(hall: &Hall<MapCargo>, pass: &mut Pass<MapCargo>, entry: &Entry) -> u64
     requires pass { IsPassOf hall.now pass.old }
     requires suits { Suits hall.now }
-    requires may { MayDraw no_entries (cargo_of hall.now) (view pass.old) entry.now }
+    requires may { MayDraw (cargo_of hall.now) (view pass.old) entry.now }
     requires quota { 0 < (view pass.old).quota }
     ensures pass { IsPassOf hall.now pass.new × Stays (view pass.old) (view pass.new) }
     ensures quota { (view pass.new).quota + 1 ≡ (view pass.old).quota }
-    ensures drew { Drew no_entries 0 (view pass.old).part (view pass.new).part result entry.now }
+    ensures drew { Drew 0 (view pass.old).part (view pass.new).part result entry.now }
     ensures number { result < (cargo_of hall.now).writes }
     ensures step { (view pass.new).steps ≡ cargo_step (view pass.old) AddCargo (number_place (cargo_of hall.now)) result true ∷ (view pass.old).steps }
 {
@@ -203,9 +202,9 @@ pub fn draw(
     requires pass { IsPassOf hall.now pass.old }
     requires suits { Suits hall.now }
     requires caller { entry.now.caller ≡ (view pass.old).number }
-    requires may { MayDraw no_entries (cargo_of hall.now) (view pass.old) entry.now }
+    requires may { MayDraw (cargo_of hall.now) (view pass.old) entry.now }
     ensures pass { IsPassOf hall.now pass.new × Stays (view pass.old) (view pass.new) }
-    ensures drawn { MatchResult result (λ number. Drew no_entries 8 (view pass.old).part (view pass.new).part number entry.now × ((view pass.new).quota + 1 ≡ (view pass.old).quota) × (number < (cargo_of hall.now).writes)) (λ _. ((view pass.old).quota ≡ 0) × (view pass.new ≡ view pass.old)) }
+    ensures drawn { MatchResult result (λ number. Drew 8 (view pass.old).part (view pass.new).part number entry.now × ((view pass.new).quota + 1 ≡ (view pass.old).quota) × (number < (cargo_of hall.now).writes)) (λ _. ((view pass.old).quota ≡ 0) × (view pass.new ≡ view pass.old)) }
     ensures steps { IfOk result (λ number. (view pass.new).steps ≡ row_stores (view pass.old) (cargo_of hall.now) number entry.now 8 ++ (cargo_step (view pass.old) AddCargo (number_place (cargo_of hall.now)) number true ∷ (view pass.old).steps)) }
 {
     if pass.quota() == 0 {
@@ -220,7 +219,7 @@ fn place_by<K: Line>(hall: &Hall<MapCargo>, pass: &mut Pass<MapCargo>, entry: &E
     requires pass { IsPassOf hall.now pass.old }
     requires suits { Suits hall.now }
     requires entry { (entry.now ≡ K.entry) × ((cargo_of hall.now).writes ≡ K.writes) }
-    requires may { MayPlace no_entries (cargo_of hall.now) (view pass.old) entry.now }
+    requires may { MayPlace (cargo_of hall.now) (view pass.old) entry.now }
     ensures pass { IsPassOf hall.now pass.new × Alike (view pass.old) (view pass.new) }
     ensures placed { ((view pass.new).part ≡ placed (view pass.old).part result entry.now) × ((view pass.old).part.seen ≤ result) }
     ensures number { result ≤ (cargo_of hall.now).writes }
@@ -236,7 +235,7 @@ pub fn place_read(hall: &Hall<MapCargo>, pass: &mut Pass<MapCargo>, entry: &Entr
     requires pass { IsPassOf hall.now pass.old }
     requires suits { Suits hall.now }
     requires caller { entry.now.caller ≡ (view pass.old).number }
-    requires may { MayPlace no_entries (cargo_of hall.now) (view pass.old) entry.now }
+    requires may { MayPlace (cargo_of hall.now) (view pass.old) entry.now }
     ensures pass { IsPassOf hall.now pass.new × Alike (view pass.old) (view pass.new) }
     ensures placed { ((view pass.new).part ≡ placed (view pass.old).part result entry.now) × ((view pass.old).part.seen ≤ result) }
     ensures number { result ≤ (cargo_of hall.now).writes }

@@ -5,7 +5,6 @@ ghost use Rattle.hall.specs.Views.{standing};
 ghost use Rattle.hall.specs.declared.view.Standing.TheVariants.{Away, Inline, Exclusive};
 ghost use Rattle.query_rules.specs.declared.query.Query.TheVariants.{TryGet};
 ghost use Rattle.query_rules.specs.declared.query.Reply.TheVariants.{Busy};
-ghost use Rattle.query_rules.specs.Maps.{no_entries};
 ghost use Rattle.map_cargo.specs.declared.entry.Told.TheVariants as told;
 ghost use Rattle.map_cargo.specs.History.{IsSettled, IsRested};
 ghost use Rattle.map_cargo.specs.Steps.{Suits, IsIdle, Gained, Left, Alike};
@@ -37,7 +36,7 @@ fn exclusive<A: Abort>(
     ensures pass { IsPassOf hall.now pass.new }
     ensures held { (result.lock ≡ cell) × (standing (view pass.new) cell ≡ Exclusive) }
     ensures others { (k : ℕ) → k ≢ cell → standing (view pass.new) k ≡ Away }
-    ensures gained { Gained no_entries cell (view pass.old) (view pass.new) }
+    ensures gained { Gained cell (view pass.old) (view pass.new) }
 {
     match try_lock(hall, pass, cell) {
         Ok(guard) => guard,
@@ -58,7 +57,7 @@ fn shared<A: Abort>(
     ensures pass { IsPassOf hall.now pass.new }
     ensures held { (result.lock ≡ cell) × (standing (view pass.new) cell ≡ Inline) }
     ensures others { (k : ℕ) → k ≢ cell → standing (view pass.new) k ≡ Away }
-    ensures gained { Gained no_entries cell (view pass.old) (view pass.new) }
+    ensures gained { Gained cell (view pass.old) (view pass.new) }
 {
     match try_lock_shared(hall, pass, cell) {
         Ok(guard) => guard,
@@ -73,7 +72,7 @@ fn leave(hall: &Hall<MapCargo>, pass: &mut Pass<MapCargo>, guard: ExclusiveGuard
     requires cell { guard.lock < (shape_of hall.now).locks }
     requires held { standing (view pass.old) guard.lock ≡ Exclusive }
     requires others { (k : ℕ) → k ≢ guard.lock → standing (view pass.old) k ≡ Away }
-    requires settled { IsSettled no_entries guard.lock (view pass.old).part }
+    requires settled { IsSettled guard.lock (view pass.old).part }
     requires rested { IsRested (view pass.old).part }
     ensures pass { IsPassOf hall.now pass.new }
     ensures idle { IsIdle (view pass.new) }

@@ -1,6 +1,5 @@
 //! The cargo's words, and the laws that its rule keeps.
-ghost use Rattle.std.specs.Prelude.{◌≡◌, ◌<◌, ◌≤◌, ◌+◌, ◌*◌, ◌^◌, ◌/◌, ℕ, Some, None, if◌then◌else◌, nat_lt, refl};
-ghost use Rattle.query_rules.specs.Maps.{no_entries};
+ghost use Rattle.std.specs.Prelude.{◌≡◌, ◌<◌, ◌≤◌, ◌+◌, ◌*◌, ◌^◌, ◌/◌, ℕ, Some, None, if◌then◌else◌, nat_lt};
 ghost use Rattle.map_cargo.specs.Cells.{word_count, number_place, width};
 ghost use Rattle.map_cargo.specs.History.{OneHistory, Learns, IsSettled, IsRested, first_part, split_part, joined_part};
 ghost use Rattle.map_cargo.specs.Laws.{starts, gain_keeps, raise_keeps, lower_keeps, split_keeps, join_keeps};
@@ -16,7 +15,7 @@ impl CargoRule for MapCargo {
 
     ghost guard_of = { λ c place. if nat_lt place (number_place c) then Some (place / width c) else None };
 
-    ghost holds = { OneHistory no_entries };
+    ghost holds = { OneHistory };
 
     ghost admits = { λ c quota. (quota ≤ c.writes) × (c.writes < 2 ^ 64) };
 
@@ -24,11 +23,11 @@ impl CargoRule for MapCargo {
 
     ghost spent = { first_part };
 
-    ghost gains = { λ lock _ p q. Learns no_entries lock p q };
+    ghost gains = { λ lock _ p q. Learns lock p q };
 
     ghost lowered = { λ _ _ part. part };
 
-    ghost settled = { IsSettled no_entries };
+    ghost settled = { IsSettled };
 
     ghost rested = { IsRested };
 
@@ -40,15 +39,15 @@ impl CargoRule for MapCargo {
 
     ghost starts = { starts };
 
-    ghost gain_keeps = { λ c ws qs id lock m q h at. gain_keeps no_entries c ws qs id lock m q h at (λ _ _. refl) };
+    ghost gain_keeps = { gain_keeps };
 
-    ghost raise_keeps = { raise_keeps no_entries };
+    ghost raise_keeps = { raise_keeps };
 
-    ghost lower_keeps = { lower_keeps no_entries };
+    ghost lower_keeps = { lower_keeps };
 
-    ghost split_keeps = { split_keeps no_entries };
+    ghost split_keeps = { split_keeps };
 
-    ghost join_keeps = { join_keeps no_entries };
+    ghost join_keeps = { join_keeps };
 }
 
 impl MapCargo {

@@ -8,3 +8,4 @@ pub mod Refusing
 pub mod Replies
 pub mod Taking
 pub mod Trails
+pub mod Tries

@@ -62,7 +62,7 @@ held_near : (v : View Part) (locks k : ℕ) → length v.standings ≡ locks →
 held_near v locks k size held = dite (dec_lt k locks) (λ low. low) (λ no. absurd (held (ap mode_of (get_or_past v.standings k Away (omega arith)))))
 
 -- a read that was placed: its one step loaded the number word
-pub placed_read : (c : MapCargo) (v w : View Part) (q : Query) (said : Said) (n : ℕ) → Alike v w → HoldsFor q v → is_write said ≡ false → 2 * n ≡ history.place_of n said → w.steps ≡ cargo_step v LoadCargo (number_place c) n false ∷ v.steps
+pub placed_read : (c : MapCargo) (v w : View Part) (q : Query) (said : Said) (n : ℕ) → Alike v w → HoldsFor q said v → is_write said ≡ false → 2 * n ≡ history.place_of n said → w.steps ≡ cargo_step v LoadCargo (number_place c) n false ∷ v.steps
     → PlacedUnder c v w q (2 * n) said
 placed_read c v w q said n alike holds reads place is = record {
   newer = [];
@@ -78,7 +78,7 @@ placed_read c v w q said n alike holds reads place is = record {
 }
 
 -- a write that was drawn: its step drew the number, and then its log row was stored
-pub placed_write : (c : MapCargo) (v w : View Part) (q : Query) (said : Said) (n : ℕ) (e : Entry) → Stays v w → HoldsFor q v → length v.standings ≡ v.shape.locks → mode_for q ≡ exclusive_mode → is_write said ≡ true → 2 * n + 1 ≡ history.place_of n said
+pub placed_write : (c : MapCargo) (v w : View Part) (q : Query) (said : Said) (n : ℕ) (e : Entry) → Stays v w → HoldsFor q said v → length v.standings ≡ v.shape.locks → mode_for q said ≡ exclusive_mode → is_write said ≡ true → 2 * n + 1 ≡ history.place_of n said
     → w.steps ≡ row_stores v c n e 8 ++ (cargo_step v AddCargo (number_place c) n true ∷ v.steps) → PlacedUnder c v w q (2 * n + 1) said
 placed_write c v w q said n e stays holds size mode writes place is = record {
   newer = row_stores v c n e 8;
@@ -91,7 +91,7 @@ placed_write c v w q said n e stays holds size mode writes place is = record {
   tells = place;
   last = subst (λ (s : Shape). All (λ (x : StepEntry). x.place ≢ s.slots + s.locks + number_place c) (row_stores v c n e 8)) (sym stays.shape) (row_aside v c n 8 e);
   held = λ cell has.
-      let m : mode_of (standing v cell) ≡ mode_for q = holds.each cell has in
+      let m : mode_of (standing v cell) ≡ mode_for q said = holds.each cell has in
       let near : cell < v.shape.locks = held_near v v.shape.locks cell size (λ none. (let bad : None ≡ exclusive_mode = sym none ∙ m ∙ mode in cc)) in
       ap (λ (s : Shape). mode_of (stood_at (s.slots + cell) (row_stores v c n e 8) (standing w cell))) stays.shape
       ∙ ap mode_of (row_stood v c n 8 cell e (standing w cell) near)
@@ -168,8 +168,8 @@ leads_then c v u w a b = record {
 }
 
 -- a pass that holds one cell for reading holds all that a placed reply to its query speaks of so
-pub holds_read : (v : View Part) (lock : ℕ) (q : Query) → standing v lock ≡ Inline → ((k : ℕ) → k ≢ lock → standing v k ≡ Away) → ((k : ℕ) → Has (spoken_cells q) k → mode_of (standing v k) ≢ None) → mode_for q ≡ shared_mode → HoldsFor q v
-holds_read v lock q inline only some mode = record {
+pub holds_read : (v : View Part) (lock : ℕ) (q : Query) (said : Said) → standing v lock ≡ Inline → ((k : ℕ) → k ≢ lock → standing v k ≡ Away) → ((k : ℕ) → Has (spoken_cells q) k → mode_of (standing v k) ≢ None) → mode_for q said ≡ shared_mode → HoldsFor q said v
+holds_read v lock q said inline only some mode = record {
   each = λ k has. dite (ℕ_discrete k lock)
       (λ here. ap (λ (i : ℕ). mode_of (standing v i)) here ∙ ap mode_of inline ∙ sym mode)
       (λ ne. absurd (some k has (ap mode_of (only k ne))));

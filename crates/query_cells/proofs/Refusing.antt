@@ -22,8 +22,10 @@ use Rattle.map_cargo.specs.Gaining.{everywhere}
 use Rattle.map_cargo.specs.History.{IsRested}
 use Rattle.map_cargo.specs.Licences.{Licensed, LoadedOnce, MayRefuse, licence_joined, still_licensed}
 use Rattle.map_cargo.specs.Steps.{Alike, IsIdle, MoreSteps, told_too}
-use Rattle.query_cells.specs.Asked.{AddsReply, IsForced, IsLateBy, WasRefused, is_granted, is_job, tells_write}
+use Rattle.query_cells.specs.Asked.{AddsReply, AsksUntil, IsForced, IsLateBy, WasRefused, is_granted, is_job, tells_write}
 use Rattle.query_cells.specs.Placing.{IsPlacedUnder}
+use Rattle.sync_cell.specs.Waits.{AskedInTime, AskedTooLate}
+use Rattle.std.specs.declared.option.Option.{Option}
 use Rattle.query_cells.specs.Answers.{Tells, TellsNothing, TurnedAway}
 
 -- what a licensed reply is
@@ -110,3 +112,14 @@ granted_in_time q last (Placed place said) e = tt
 granted_in_time q last Busy e = tt
 granted_in_time q last (Late now) e = absurd (cc)
 granted_in_time q last (Job at result) e = tt
+
+-- a reply of the maps that was granted in time
+pub granted_asks : {T : Type 0} (last : T → ℕ) (answers : T → Option (List ℕ)) (old new : T) (deadline : ℕ) (reply : Reply) → is_granted reply ≡ true → is_job reply ≡ false → (refusals : ℕ) × AskedInTime last answers deadline refusals old new → AsksUntil last answers old new deadline reply
+granted_asks last answers old new deadline (Placed place said) e maps asked = asked
+granted_asks last answers old new deadline Busy e maps asked = absurd (cc)
+granted_asks last answers old new deadline (Late now) e maps asked = absurd (cc)
+granted_asks last answers old new deadline (Job at result) e maps asked = absurd (cc)
+
+-- and one that was late
+pub late_asks : {T : Type 0} (last : T → ℕ) (answers : T → Option (List ℕ)) (old new : T) (deadline now : ℕ) (told : Reply) → told ≡ Late now → (refusals : ℕ) × AskedTooLate last answers deadline refusals old new now → AsksUntil last answers old new deadline told
+late_asks {T} last answers old new deadline now told is asked = subst (λ (r : Reply). AsksUntil {T = T} last answers old new deadline r) (sym is) asked

@@ -17,7 +17,7 @@ use Rattle.query_rules.specs.declared.query.Query.TheVariants as query
 use Rattle.query_rules.specs.declared.query.Said.{Said}
 use Rattle.query_rules.specs.declared.query.Reply.{Reply}
 use Rattle.query_rules.specs.declared.query.Reply.TheVariants.{Placed, Busy, Late, Job}
-use Rattle.query_rules.specs.Maps.{Maps, no_entries, reply_of, is_write, after, written}
+use Rattle.query_rules.specs.Maps.{Maps, reply_of, is_write, after, written}
 use Rattle.query_rules.specs.History.{place_of, IsKindFor}
 use Rattle.query_rules.proofs.ReplyKinds.{said_kind}
 use Rattle.map_cargo.specs.declared.size.MapCargo.{MapCargo}
@@ -72,7 +72,7 @@ tells_then c v u w index q reply h left back = record {
 }
 
 -- taking a cell tells nothing
-pub nothing_gained : (lock : ℕ) (v w : View Part) → Gained no_entries lock v w → TellsNothing v w
+pub nothing_gained : (lock : ℕ) (v w : View Part) → Gained lock v w → TellsNothing v w
 nothing_gained lock v w h = record { number = h.number; span = h.span; taken = h.taken; quota = h.quota; seen = h.seen; told = h.told; row = h.row; stored = h.stored; steps = h.steps }
 
 pub nothing_then : (v u w : View Part) → TellsNothing v u → TellsNothing u w → TellsNothing v w
@@ -127,47 +127,47 @@ spoken_named (query.Take k n) cell h = h
 spoken_named query.Audit cell h = h
 
 -- a pass that holds the cells that a query names exclusively holds those that its reply speaks of so
-pub holds_written : (v : View Part) (q : Query) → mode_for q ≡ exclusive_mode → ((cell : ℕ) → Has (named_cells q) cell → mode_of (standing v cell) ≡ exclusive_mode) → HoldsFor q v
-holds_written v q mode holds = record { each = λ cell has. holds cell (spoken_named q cell has) ∙ sym mode }
+pub holds_written : (v : View Part) (q : Query) (said : Said) → mode_for q said ≡ exclusive_mode → ((cell : ℕ) → Has (named_cells q) cell → mode_of (standing v cell) ≡ exclusive_mode) → HoldsFor q said v
+holds_written v q said mode holds = record { each = λ cell has. holds cell (spoken_named q cell has) ∙ sym mode }
 
 -- a read that was placed was told
-pub read_told : (c : MapCargo) (v w : View Part) (index : ℕ) (q : Query) (said : Said) (n : ℕ) → MayPlace no_entries c v (entry_for v.number index q said) → HoldsFor q v → Alike v w → w.part ≡ placed v.part n (entry_for v.number index q said) → v.part.seen ≤ n → w.steps ≡ cargo_step v LoadCargo (number_place c) n false ∷ v.steps
+pub read_told : (c : MapCargo) (v w : View Part) (index : ℕ) (q : Query) (said : Said) (n : ℕ) → MayPlace c v (entry_for v.number index q said) → HoldsFor q said v → Alike v w → w.part ≡ placed v.part n (entry_for v.number index q said) → v.part.seen ≤ n → w.steps ≡ cargo_step v LoadCargo (number_place c) n false ∷ v.steps
     → Tells c v w index q (Placed (2 * n) said)
 read_told c v w index q said n may holds alike is behind step = record {
   number = alike.number;
   span = alike.span;
   taken = alike.taken;
   quota = chosen_false (is_write said) _ _ may.reads alike.quota;
-  kind = said_kind c.rows (plain_of no_entries v.part) q said may.said;
+  kind = said_kind c.rows (plain_of v.part) q said may.said;
   of_maps = refl;
   told = (n, place_read_at n said may.reads, behind, chosen_false (is_write said) _ _ may.reads (ap (λ (p : Part). p.seen) is, ap (λ (p : Part). p.told) is));
   placing = placed_read c v w q said n alike holds may.reads (place_read_at n said may.reads) step;
 }
 
-pub read_follows : (c : MapCargo) (v w : View Part) (index : ℕ) (q : Query) (said : Said) (n : ℕ) → MayPlace no_entries c v (entry_for v.number index q said) → w.part ≡ placed v.part n (entry_for v.number index q said) → IsRested v.part → Follows v w q said
+pub read_follows : (c : MapCargo) (v w : View Part) (index : ℕ) (q : Query) (said : Said) (n : ℕ) → MayPlace c v (entry_for v.number index q said) → w.part ≡ placed v.part n (entry_for v.number index q said) → IsRested v.part → Follows v w q said
 read_follows c v w index q said n may is rested = record {
-  plain = λ cell. ap (λ (p : Part). plain_of no_entries p cell) is ∙ sym (ap (λ (b : Bool). cond b (written (plain_of no_entries v.part) q) (plain_of no_entries v.part) cell) may.reads);
+  plain = λ cell. ap (λ (p : Part). plain_of p cell) is ∙ sym (ap (λ (b : Bool). cond b (written (plain_of v.part) q) (plain_of v.part) cell) may.reads);
   words = λ cell. ap (λ (p : Part). words_of p cell) is;
   rested = ap (λ (p : Part). p.stored) is ∙ rested;
 }
 
 -- a write that was drawn was told
-pub write_told : (c : MapCargo) (v w : View Part) (index : ℕ) (q : Query) (said : Said) (n : ℕ) → MayDraw no_entries c v (entry_for v.number index q said) → Stays v w → Drew no_entries 8 v.part w.part n (entry_for v.number index q said) → w.quota + 1 ≡ v.quota → mode_for q ≡ exclusive_mode → length v.standings ≡ v.shape.locks
+pub write_told : (c : MapCargo) (v w : View Part) (index : ℕ) (q : Query) (said : Said) (n : ℕ) → MayDraw c v (entry_for v.number index q said) → Stays v w → Drew 8 v.part w.part n (entry_for v.number index q said) → w.quota + 1 ≡ v.quota → mode_for q said ≡ exclusive_mode → length v.standings ≡ v.shape.locks
     → w.steps ≡ row_stores v c n (entry_for v.number index q said) 8 ++ (cargo_step v AddCargo (number_place c) n true ∷ v.steps) → Tells c v w index q (Placed (2 * n + 1) said)
 write_told c v w index q said n may stays drew quota mode size steps = record {
   number = stays.number;
   span = stays.span;
   taken = stays.taken;
   quota = chosen_true (is_write said) _ _ may.writes quota;
-  kind = said_kind c.rows (plain_of no_entries v.part) q said may.said;
+  kind = said_kind c.rows (plain_of v.part) q said may.said;
   of_maps = refl;
   told = (n, place_write_at n said may.writes, drew.fresh, chosen_true (is_write said) _ _ may.writes (drew.seen, drew.told));
-  placing = placed_write c v w q said n (entry_for v.number index q said) stays (holds_written v q mode may.holds) size mode may.writes (place_write_at n said may.writes) steps;
+  placing = placed_write c v w q said n (entry_for v.number index q said) stays (holds_written v q said mode may.holds) size mode may.writes (place_write_at n said may.writes) steps;
 }
 
-pub write_follows : (c : MapCargo) (v w : View Part) (index : ℕ) (q : Query) (said : Said) (n : ℕ) → MayDraw no_entries c v (entry_for v.number index q said) → Drew no_entries 8 v.part w.part n (entry_for v.number index q said) → Follows v w q said
+pub write_follows : (c : MapCargo) (v w : View Part) (index : ℕ) (q : Query) (said : Said) (n : ℕ) → MayDraw c v (entry_for v.number index q said) → Drew 8 v.part w.part n (entry_for v.number index q said) → Follows v w q said
 write_follows c v w index q said n may drew = record {
-  plain = λ cell. drew.plain cell ∙ sym (ap (λ (b : Bool). cond b (written (plain_of no_entries v.part) q) (plain_of no_entries v.part) cell) may.writes);
+  plain = λ cell. drew.plain cell ∙ sym (ap (λ (b : Bool). cond b (written (plain_of v.part) q) (plain_of v.part) cell) may.writes);
   words = λ cell. ap (λ (l : List (ℕ × List ℕ)). lookup [] l cell) drew.words;
   rested = drew.stores;
 }
@@ -176,7 +176,7 @@ is_held : (m : Option Mode) → m ≡ exclusive_mode → m ≢ None
 is_held m e none = cc
 
 -- what may be told of cells held for writing may be placed, or drawn
-pub may_place : (c : MapCargo) (v : View Part) (index : ℕ) (q : Query) (said : Said) → MayTell c v q said → is_write said ≡ false → MayPlace no_entries c v (entry_for v.number index q said)
+pub may_place : (c : MapCargo) (v : View Part) (index : ℕ) (q : Query) (said : Said) → MayTell c v q said → is_write said ≡ false → MayPlace c v (entry_for v.number index q said)
 may_place c v index q said may reads = record {
   near = λ cell has. may.near cell (spoken_named q cell has);
   holds = λ cell has. is_held (mode_of (standing v cell)) (may.holds cell (spoken_named q cell has));
@@ -184,10 +184,10 @@ may_place c v index q said may reads = record {
   reads = reads;
 }
 
-pub may_hold : (c : MapCargo) (v : View Part) (q : Query) (said : Said) → MayTell c v q said → HoldsFor q v
-may_hold c v q said may = holds_written v q may.mode may.holds
+pub may_hold : (c : MapCargo) (v : View Part) (q : Query) (said : Said) → MayTell c v q said → HoldsFor q said v
+may_hold c v q said may = holds_written v q said may.mode may.holds
 
-pub may_draw : (c : MapCargo) (v : View Part) (index : ℕ) (q : Query) (said : Said) → MayTell c v q said → is_write said ≡ true → MayDraw no_entries c v (entry_for v.number index q said)
+pub may_draw : (c : MapCargo) (v : View Part) (index : ℕ) (q : Query) (said : Said) → MayTell c v q said → is_write said ≡ true → MayDraw c v (entry_for v.number index q said)
 may_draw c v index q said may writes = record { near = may.near; holds = may.holds; said = may.says; writes = writes; rested = may.rested }
 
 -- a pass that gave its one cell back is idle
@@ -195,5 +195,5 @@ pub idle_again : (v w : View Part) (lock : ℕ) → standing w lock ≡ Away →
 idle_again v w lock away same only rested = (everywhere w lock away (λ k ne. same k ne ∙ only k ne), rested)
 
 -- a cell whose words are those that the reply leaves is settled once the reply was told
-pub settled_again : (v w : View Part) (cell : ℕ) (q : Query) (said : Said) → Stored v cell q said → Follows v w q said → IsSettled no_entries cell w.part
-settled_again v w cell q said stored follows = subst (λ (l : List ℕ). Means l (plain_of no_entries w.part cell)) (sym (follows.words cell)) (subst (Means (words_of v.part cell)) (sym (follows.plain cell)) stored)
+pub settled_again : (v w : View Part) (cell : ℕ) (q : Query) (said : Said) → Stored v cell q said → Follows v w q said → IsSettled cell w.part
+settled_again v w cell q said stored follows = subst (λ (l : List ℕ). Means l (plain_of w.part cell)) (sym (follows.words cell)) (subst (Means (words_of v.part cell)) (sym (follows.plain cell)) stored)

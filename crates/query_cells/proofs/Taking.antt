@@ -18,10 +18,9 @@ use Rattle.apply_deferred.specs.Sweeping.{Sweeps}
 use Rattle.shared_mutex.specs.Acquiring.{AnnouncesWriter, ElsewhereSame, FoundReaders, RefusesAnnouncing, RefusesExclusive, RefusesShared}
 use Rattle.shared_mutex.specs.Refused.{AddsReads, GoesOn, ReadAsReader, ReadAsWriter, goes_on_none, goes_on_once, goes_on_then, joined_as_reader, joined_as_writer, reads_after, swept_goes_on}
 use Rattle.shared_mutex.specs.TriesRefused.{looked_goes_on}
-use Rattle.shared_mutex.specs.Tries.{AnnouncesAtLast, GivesUp, OnlyLooked, WritersRefused}
+use Rattle.shared_mutex.specs.Tries.{AddsSteps, AnnouncesAtLast, GivesUp, IsTry, OnlyLooked, WritersRefused}
 use Rattle.shared_mutex.specs.TryLaws.{reader_looked, writer_looked}
 use Rattle.sync_cell.specs.Waits.{GaveUpLate}
-use Rattle.query_rules.specs.Maps.{no_entries}
 use Rattle.map_cargo.specs.declared.size.MapCargo.{MapCargo}
 use Rattle.map_cargo.specs.declared.entry.Part.{Part}
 use Rattle.map_cargo.specs.Gaining.{gained_from}
@@ -75,8 +74,8 @@ unchanged_tells v w h = record {
   steps = more_of v w h;
 }
 
-pub gained_later : (lock : ℕ) (v u w : View Part) → Unchanged v u → Gained no_entries lock u w → Gained no_entries lock v w
-gained_later lock v u w h got = gained_from no_entries lock u v w h.part h.goes_on.number h.quota h.span h.taken (more_of v u h) got
+pub gained_later : (lock : ℕ) (v u w : View Part) → Unchanged v u → Gained lock u w → Gained lock v w
+gained_later lock v u w h got = gained_from lock u v w h.part h.goes_on.number h.quota h.span h.taken (more_of v u h) got
 
 module _ (g : Ghosts MapCargo Part) where
   pub reader_unchanged : (v : View Part) (lock : ℕ) (w : View Part) (f : TryFault) → RefusesShared g v lock w f → Unchanged v w
@@ -130,8 +129,8 @@ busy_writes v u w lock fault word is before r =
     reads_after (ReadAsWriter lock (Busy word)) (joined_as_writer lock (Busy word)) v u w before.goes_on (subst (λ (f : TryFault). AddsReads (ReadAsWriter lock f) u w) is r)
 
 -- a pass that wasn't let in after tries
-pub turned_away : (v u w : View Part) (lock : ℕ) → Unchanged v u → Unchanged u w → ElsewhereSame v u lock → ElsewhereSame u w lock → standing w lock ≡ Away → TurnedAway lock v w
-turned_away v u w lock a b x y away = record { away = away; elsewhere = λ k ne. y k ne ∙ x k ne; nothing = unchanged_tells v w (unchanged_then v u w a b) }
+pub turned_away : (v u w : View Part) (lock : ℕ) → Unchanged v u → Unchanged u w → ElsewhereSame v u lock → ElsewhereSame u w lock → standing w lock ≡ Away → AddsSteps (IsTry v lock) v w → TurnedAway lock v w
+turned_away v u w lock a b x y away tries = record { away = away; elsewhere = λ k ne. y k ne ∙ x k ne; nothing = unchanged_tells v w (unchanged_then v u w a b); tries = tries }
 
-pub took_at_last : (v u w : View Part) (lock : ℕ) (y : Standing) → Unchanged v u → ElsewhereSame v u lock → ElsewhereSame u w lock → standing w lock ≡ y → Gained no_entries lock u w → Took lock y v w
+pub took_at_last : (v u w : View Part) (lock : ℕ) (y : Standing) → Unchanged v u → ElsewhereSame v u lock → ElsewhereSame u w lock → standing w lock ≡ y → Gained lock u w → Took lock y v w
 took_at_last v u w lock y a same_u same_w stands got = record { stands = stands; elsewhere = λ k ne. same_w k ne ∙ same_u k ne; gained = gained_later lock v u w a got }

@@ -13,7 +13,7 @@ use Rattle.query_rules.specs.declared.query.Query.{Query}
 use Rattle.query_rules.specs.declared.query.Query.TheVariants.{Put}
 use Rattle.query_rules.specs.declared.query.Said.{Said}
 use Rattle.query_rules.specs.declared.query.Reply.{Reply}
-use Rattle.query_rules.specs.Maps.{Maps, no_entries, reply_of, is_write, after, get_says}
+use Rattle.query_rules.specs.Maps.{Maps, reply_of, is_write, after, get_says}
 use Rattle.query_rules.specs.History.{IsKindFor}
 use Rattle.map_cargo.specs.declared.size.MapCargo.{MapCargo}
 use Rattle.map_cargo.specs.declared.entry.Part.{Part}
@@ -21,6 +21,7 @@ use Rattle.map_cargo.specs.Cells.{Means}
 use Rattle.map_cargo.specs.Entries.{named_cells, spoken_cells}
 use Rattle.map_cargo.specs.History.{words_of, plain_of, IsRested, IsSettled}
 use Rattle.map_cargo.specs.Steps.{Alike, Gained, MoreSteps}
+use Rattle.shared_mutex.specs.Tries.{AddsSteps, IsTry}
 use Rattle.query_cells.specs.Asked.{AddsReply, is_job, tells_write}
 use Rattle.query_cells.specs.Placing.{IsPlacedUnder, mode_for, number_word, stood_at}
 
@@ -55,9 +56,9 @@ pub record LeadsBack (c : MapCargo) (v w : View Part) : Type 0 where
   pub aside : All (λ (e : StepEntry). e.place ≢ number_word c v) added
   pub back : (lock : ℕ) → stood_at (place_of v lock) added (standing w lock) ≡ standing v lock
 
--- the pass holds each cell that a reply to the query speaks of in the query's mode
-pub record HoldsFor (q : Query) (v : View Part) : Type 0 where
-  pub each : (cell : ℕ) → Has (spoken_cells q) cell → mode_of (standing v cell) ≡ mode_for q
+-- the pass holds each cell that this reply to the query speaks of in the mode for it
+pub record HoldsFor (q : Query) (said : Said) (v : View Part) : Type 0 where
+  pub each : (cell : ℕ) → Has (spoken_cells q) cell → mode_of (standing v cell) ≡ mode_for q said
 
 -- a pass holds no other lock than this
 abbrev pub OnlyAt : ℕ → View Part → Type 0
@@ -67,42 +68,42 @@ OnlyAt lock v = (k : ℕ) → k ≢ lock → standing v k ≡ Away
 pub record MayTell (c : MapCargo) (v : View Part) (q : Query) (said : Said) : Type 0 where
   pub near : (cell : ℕ) → Has (named_cells q) cell → cell < c.cells
   pub holds : (cell : ℕ) → Has (named_cells q) cell → mode_of (standing v cell) ≡ exclusive_mode
-  pub mode : mode_for q ≡ exclusive_mode
-  pub says : reply_of c.rows (plain_of no_entries v.part) q ≡ Some said
+  pub mode : mode_for q said ≡ exclusive_mode
+  pub says : reply_of c.rows (plain_of v.part) q ≡ Some said
   pub quota : is_write said ≡ true → 1 ≤ v.quota
   pub rested : IsRested v.part
 
 -- the plain maps are those that the reply leaves, and no word changed
 pub record Follows (v w : View Part) (q : Query) (said : Said) : Type 0 where
-  pub plain : (cell : ℕ) → plain_of no_entries w.part cell ≡ after (plain_of no_entries v.part) q said cell
+  pub plain : (cell : ℕ) → plain_of w.part cell ≡ after (plain_of v.part) q said cell
   pub words : (cell : ℕ) → words_of w.part cell ≡ words_of v.part cell
   pub rested : IsRested w.part
 
 -- the words of a cell are those that a reply leaves
 abbrev pub Stored : View Part → ℕ → Query → Said → Type 0
-Stored v cell q said = Means (words_of v.part cell) (after (plain_of no_entries v.part) q said cell)
+Stored v cell q said = Means (words_of v.part cell) (after (plain_of v.part) q said cell)
 
 -- a query that asks for the value of a key in a cell
 pub record AsksValue (q : Query) (cell key : ℕ) : Type 0 where
   pub names : spoken_cells q ≡ cell ∷ []
-  pub mode : mode_for q ≡ shared_mode
+  pub mode : (said : Said) → mode_for q said ≡ shared_mode
   pub says : (rows : ℕ) (maps : Maps) → reply_of rows maps q ≡ Some (get_says ((maps cell).value_at key))
 
 -- a query that gives a key of a cell this value
 pub record AsksPut (q : Query) (cell key value : ℕ) : Type 0 where
   pub names : named_cells q ≡ cell ∷ []
-  pub mode : mode_for q ≡ exclusive_mode
+  pub mode : (said : Said) → mode_for q said ≡ exclusive_mode
   pub says : (rows : ℕ) (maps : Maps) → reply_of rows maps q ≡ reply_of rows maps (Put cell key value)
   pub leaves : (maps : Maps) (said : Said) → after maps q said ≡ after maps (Put cell key value) said
 
 -- a cell's words are afterwards those that a reply to a query on the maps before leaves
 abbrev pub Leaves : ℕ → View Part → View Part → Query → Said → Type 0
-Leaves cell v w q said = Means (words_of w.part cell) (after (plain_of no_entries v.part) q said cell)
+Leaves cell v w q said = Means (words_of w.part cell) (after (plain_of v.part) q said cell)
 
 -- words of held cells may have changed, and nothing else that the pass knows
 pub record ChangesWords (v w : View Part) : Type 0 where
   pub alike : Alike v w
-  pub writes : w.part.writes ≡ v.part.writes
+  pub made : w.part.made ≡ v.part.made
   pub seen : w.part.seen ≡ v.part.seen
   pub told : w.part.told ≡ v.part.told
   pub row : w.part.row ≡ v.part.row
@@ -113,20 +114,21 @@ pub record HoldsTwo (a b : ℕ) (y : Standing) (v : View Part) : Type 0 where
   pub first : standing v a ≡ y
   pub second : standing v b ≡ y
   pub others : (k : ℕ) → k ≢ a → k ≢ b → standing v k ≡ Away
-  pub first_settled : IsSettled no_entries a v.part
-  pub second_settled : IsSettled no_entries b v.part
+  pub first_settled : IsSettled a v.part
+  pub second_settled : IsSettled b v.part
 
--- a cell wasn't taken: the pass is away from it, and has told nothing
+-- a cell wasn't taken: the pass only tried for it, is away from it, and has told nothing
 pub record TurnedAway (lock : ℕ) (v w : View Part) : Type 0 where
   pub away : standing w lock ≡ Away
   pub elsewhere : (k : ℕ) → k ≢ lock → standing w k ≡ standing v k
   pub nothing : TellsNothing v w
+  pub tries : AddsSteps (IsTry v lock) v w
 
 -- a cell was taken in this way: the pass knows its map
 pub record Took (lock : ℕ) (y : Standing) (v w : View Part) : Type 0 where
   pub stands : standing w lock ≡ y
   pub elsewhere : (k : ℕ) → k ≢ lock → standing w k ≡ standing v k
-  pub gained : Gained no_entries lock v w
+  pub gained : Gained lock v w
 
 -- a footprint at one of two locks, and no strong one
 abbrev pub IsAtEither : ℕ → ℕ → Footprint → Type 0

@@ -1,11 +1,12 @@
 -- What one query leaves of the pass that asks it.
-use Rattle.std.specs.Prelude.{◌≡◌, ℕ, ◌+◌, ◌≤◌, Bool, true, false, List, [], ◌∷◌, ◌++◌, MatchBool, Some}
+use Rattle.std.specs.Prelude.{◌≡◌, ℕ, ◌+◌, ◌<◌, ◌≤◌, Bool, true, false, List, [], ◌∷◌, ◌++◌, MatchBool, Some}
+use Rattle.std.specs.declared.option.Option.{Option}
 use Rattle.lock_model.specs.Locks.{Has}
 use Rattle.hall.specs.declared.view.Footprint.{Footprint}
 use Rattle.hall.specs.declared.view.StepEntry.{StepEntry}
 use Rattle.hall.specs.declared.view.View.{View}
 use Rattle.query_rules.specs.declared.query.Query.{Query}
-use Rattle.query_rules.specs.declared.query.Query.TheVariants.{GetBy, PutBy}
+use Rattle.query_rules.specs.declared.query.Query.TheVariants.{TryGet, TryPut, GetBy, PutBy}
 use Rattle.query_rules.specs.declared.query.LedgerAct.{LedgerAct}
 use Rattle.query_rules.specs.declared.query.LedgerTold.{LedgerTold}
 use Rattle.query_rules.specs.declared.query.LedgerTrouble.{LedgerTrouble}
@@ -22,6 +23,10 @@ use Rattle.combine_job.specs.declared.parcel.JobAnswer.{JobAnswer}
 use Rattle.combine_job.specs.declared.parcel.Parcel.{Parcel}
 use Rattle.combine_job.specs.Parcels.{answer_to, places}
 use Rattle.waiter_chain.specs.declared.view.View.{View as ChainView}
+use Rattle.shared_mutex.specs.Refused.{AddsReads}
+use Rattle.shared_mutex.specs.Tries.{AddsSteps, IsTry}
+use Rattle.sync_cell.specs.Gains.{GainedBy, GainedInOrder, refuses_reader, refuses_writer}
+use Rattle.sync_cell.specs.Waits.{AskedInTime, AskedTooLate}
 use Rattle.map_cargo.specs.declared.entry.Entry.{Entry}
 use Rattle.map_cargo.specs.declared.entry.Told.TheVariants.{Wrote, Read, Refused}
 use Rattle.map_cargo.specs.declared.entry.Part.{Part}
@@ -102,6 +107,20 @@ IsLateBy q last (Placed place said) = Unit {0}
 IsLateBy q last Busy = Unit {0}
 IsLateBy q last (Job at result) = Unit {0}
 
+-- What the clock told a query that waits until this deadline. After each refused try it was asked once, and each of its answers was below the deadline; but the last of a late reply, which is what the reply tells
+module _ {T : Type 0} (last : T → ℕ) (answers : T → Option (List ℕ)) (old new : T) where
+  abbrev pub AsksUntil : ℕ → Reply → Type 0
+  AsksUntil deadline (Late now) = (refusals : ℕ) × AskedTooLate last answers deadline refusals old new now
+  AsksUntil deadline (Placed place said) = (refusals : ℕ) × AskedInTime last answers deadline refusals old new
+  AsksUntil deadline Busy = ⊥
+  AsksUntil deadline (Job at result) = ⊥
+
+  -- and any query: one without a deadline asks the clock nothing
+  abbrev pub AsksClock : Query → Reply → Type 0
+  AsksClock (GetBy cell key deadline) reply = AsksUntil deadline reply
+  AsksClock (PutBy cell key value deadline) reply = AsksUntil deadline reply
+  AsksClock _ reply = new ≡ old
+
 -- the pass made steps, and among them are reads of a word of the query's cell, under the pass's number, that allow this reply
 abbrev pub WasRefused : Query → Reply → View Part → View Part → Type 0
 WasRefused q reply v w = (added : List StepEntry) × (w.steps ≡ added ++ v.steps) × Licensed v.shape v.number added q reply
@@ -112,6 +131,20 @@ IsForced q Busy v w = WasRefused q Busy v w
 IsForced q (Late now) v w = WasRefused q (Late now) v w
 IsForced q (Placed place said) v w = Unit {0}
 IsForced q (Job at result) v w = Unit {0}
+
+-- where a reply was refused, each step that the call made was for the lock of the query's cell, with no mode held there
+abbrev pub OnlyTried : Query → Reply → View Part → View Part → Type 0
+OnlyTried q reply v w = is_granted reply ≡ false → (cell : ℕ) → Has (taken_cells q) cell → AddsSteps (IsTry v cell) v w
+
+-- a query that tries gained its cell, where it was granted, before any of its steps had found a word for which it is refused busy
+abbrev pub GoesByTries : Query → Reply → View Part → View Part → Type 0
+GoesByTries (TryGet cell key) reply v w = is_granted reply ≡ true → AddsReads (λ shape number added. GainedBy (λ e. refuses_reader shape.policy e ≡ false) cell number added) v w
+GoesByTries (TryPut cell key value) reply v w = is_granted reply ≡ true → AddsReads (λ shape number added. GainedBy (λ e. refuses_writer e ≡ false) cell number added) v w
+GoesByTries _ reply v w = Unit {0}
+
+-- of any two cells that a query takes the lower one was gained before the higher one was tried for
+abbrev pub TakesInOrder : Query → View Part → View Part → Type 0
+TakesInOrder q v w = (low high : ℕ) → Has (taken_cells q) low → Has (taken_cells q) high → low < high → AddsReads (λ shape number added. GainedInOrder low high number added) v w
 
 -- a footprint that a query may leave: at a cell that it takes, and a strong one only where the query is strong
 abbrev pub MayTread : Query → Footprint → Type 0

@@ -22,24 +22,24 @@ use Rattle.map_cargo.specs.Cells.{number_place}
 use Rattle.map_cargo.specs.Entries.{spoken_cells}
 use Rattle.map_cargo.specs.Steps.{MoreSteps}
 
--- the mode in which a query holds each cell that its reply speaks of; a query of the ledger holds none
-abbrev pub mode_for : Query → Option Mode
-mode_for (Get cell key) = shared_mode
-mode_for (Len cell) = shared_mode
-mode_for (Put cell key value) = exclusive_mode
-mode_for (Del cell key) = exclusive_mode
-mode_for (Add cell key delta) = exclusive_mode
-mode_for (Cas cell key old new) = exclusive_mode
-mode_for (PutLen cell key value) = exclusive_mode
-mode_for (Move a b key n) = exclusive_mode
-mode_for (Both a b key) = shared_mode
-mode_for (TryGet cell key) = shared_mode
-mode_for (TryPut cell key value) = exclusive_mode
-mode_for (GetBy cell key deadline) = shared_mode
-mode_for (PutBy cell key value deadline) = exclusive_mode
-mode_for (Give key n) = None
-mode_for (Take key n) = None
-mode_for Audit = None
+-- the mode in which a query holds each cell that this reply to it speaks of, at the step that places the reply; a query of the ledger holds none
+abbrev pub mode_for : Query → Said → Option Mode
+mode_for (Get cell key) said = shared_mode
+mode_for (Len cell) said = shared_mode
+mode_for (Put cell key value) said = exclusive_mode
+mode_for (Del cell key) said = exclusive_mode
+mode_for (Add cell key delta) said = exclusive_mode
+mode_for (Cas cell key old new) said = exclusive_mode
+mode_for (PutLen cell key value) said = exclusive_mode
+mode_for (Move a b key n) said = exclusive_mode
+mode_for (Both a b key) said = shared_mode
+mode_for (TryGet cell key) said = shared_mode
+mode_for (TryPut cell key value) said = exclusive_mode
+mode_for (GetBy cell key deadline) said = shared_mode
+mode_for (PutBy cell key value deadline) said = exclusive_mode
+mode_for (Give key n) said = None
+mode_for (Take key n) said = None
+mode_for Audit said = None
 
 -- The standing at a word of the table before these steps, the newest first, where it is `now` after them: each step on the word tells the standing before it
 abbrev pub stood_at : ℕ → List StepEntry → Standing → Standing
@@ -50,7 +50,7 @@ stood_at place (e ∷ older) now = stood_at place older (cond (eqb e.place place
 abbrev pub number_word : MapCargo → View Part → ℕ
 number_word c v = v.shape.slots + v.shape.locks + number_place c
 
--- The call that led from v to w placed a reply: its step on the number word, which is the pass's last on it, drew the write's number or loaded how many writes there were; and at that step the pass held each cell that the reply speaks of in the query's mode
+-- The call that led from v to w placed a reply: its step on the number word, which is the pass's last on it, drew the write's number or loaded how many writes there were; and at that step the pass held each cell that the reply speaks of in the mode for it
 pub record PlacedUnder (c : MapCargo) (v w : View Part) (q : Query) (place : ℕ) (said : Said) : Type 0 where
   pub newer : List StepEntry
   pub step : StepEntry
@@ -61,7 +61,7 @@ pub record PlacedUnder (c : MapCargo) (v w : View Part) (q : Query) (place : ℕ
   pub at : step.place ≡ number_word c w
   pub tells : place ≡ place_of step.word said
   pub last : All (λ (e : StepEntry). e.place ≢ number_word c w) newer
-  pub held : (cell : ℕ) → Has (spoken_cells q) cell → mode_of (stood_at (views.place_of w cell) newer (standing w cell)) ≡ mode_for q
+  pub held : (cell : ℕ) → Has (spoken_cells q) cell → mode_of (stood_at (views.place_of w cell) newer (standing w cell)) ≡ mode_for q said
 
 -- which step placed a reply, and under which mode; a refused one and a job's were placed by none
 abbrev pub IsPlacedUnder : MapCargo → View Part → View Part → Query → Reply → Type 0

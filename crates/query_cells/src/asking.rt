@@ -7,7 +7,7 @@ ghost use Rattle.query_rules.specs.History.{IsKindFor, asks_ledger};
 ghost use Rattle.query_rules.specs.Maps.{may_write};
 ghost use Rattle.map_cargo.specs.Steps.{Suits, IsIdle};
 ghost use Rattle.dist_mutex.specs.Passes.{IsAtRest, IsDistPassOf, SameNumbers, dist_view};
-ghost use Rattle.query_cells.specs.Asked.{AddsJob, AddsReply, IsForced, IsLateBy, KeepsNumbers, MayTread, is_granted, tells_write};
+ghost use Rattle.query_cells.specs.Asked.{AddsJob, AddsReply, AsksClock, GoesByTries, IsForced, IsLateBy, KeepsNumbers, MayTread, OnlyTried, TakesInOrder, is_granted, tells_write};
 ghost use Rattle.query_cells.specs.Placing.{IsPlacedUnder};
 
 use crate::ledger::ask_ledger;
@@ -28,10 +28,13 @@ use std::sync::Wait;
 ///
 /// The maps' queries take their cells by waiting, in the mode that they need: `get`, `len` and `both` for reading; `put`,
 /// `del`, `add`, `cas`, `putlen` and `move` for writing. Two cells are taken one after the other, the lower number first,
-/// and two that are the same one aren't taken. `tryget` and `tryput` try, again where another pass came between, and are
-/// `Busy` where the lock's word conflicted. `getby` and `putby` wait until the clock told the deadline or later, and are
-/// then `Late`. Both come only with words of the cell that this call read and for which its lock refuses, so in a hall
-/// with one seat no query is `Busy` or `Late`.
+/// and two that are the same one aren't taken: the lower one is held before the higher one is tried for. `tryget` and
+/// `tryput` try, again where another pass came between, and are `Busy` at the first word that conflicts: where they were
+/// granted, no try of theirs had found one. `getby` and `putby` wait until the clock told the deadline or later, and are
+/// then `Late`. They ask the clock once after each refused try, and each of its answers was below the deadline but the
+/// last one of `Late`; no other query asks it. `Busy` and `Late` come only with words of the cell that this call read and
+/// for which its lock refuses, so in a hall with one seat no query is refused. A refused query never held its cell: each
+/// step of its call was for that cell's lock, made with no mode held there.
 ///
 /// A placed reply is told while its cells are held, and the pass has one write less to draw where it is one. A refused one
 /// is told without a place. `give`, `take` and `audit` are jobs of the ledger and leave the hall's pass as it was: the
@@ -70,7 +73,11 @@ pub fn ask<R: Wait, T: Clock>(
     ensures dist_same { SameNumbers (dist_view dist_pass.old) (dist_view dist_pass.new) }
     ensures job { AddsJob (view pass.old).number index query.now result (dist_view dist_pass.old) (dist_view dist_pass.new) }
     ensures late { IsLateBy query.now (T.last clock.new) result }
+    ensures clock { AsksClock T.last T.answers clock.old clock.new query.now result }
     ensures forced { IsForced query.now result (view pass.old) (view pass.new) }
+    ensures refused { OnlyTried query.now result (view pass.old) (view pass.new) }
+    ensures tries { GoesByTries query.now result (view pass.old) (view pass.new) }
+    ensures order { TakesInOrder query.now (view pass.old) (view pass.new) }
     ensures trail { Treads (MayTread query.now) (view pass.old) (view pass.new) }
     ensures alone { (shape_of hall.now).seats ≡ 1 → is_granted result ≡ true }
 {

@@ -1,11 +1,13 @@
 //! Taking a cell by a try or until a deadline, which may be refused.
-ghost use Rattle.std.specs.Prelude.{◌≡◌, ◌≢◌, ◌<◌, ◌≤◌, ◌⊎◌, ℕ, MatchOption, MatchResult, ⊤};
+ghost use Rattle.std.specs.Prelude.{◌≡◌, ◌≢◌, ◌<◌, ◌≤◌, ◌⊎◌, ℕ, MatchOption, MatchResult, ⊤, false};
 ghost use Rattle.hall.specs.Passes.{view, IsPassOf, shape_of};
 ghost use Rattle.hall.specs.Refusals.{BusyForReading, BusyForWriting, ReadTwoWords};
 ghost use Rattle.hall.specs.Treading.{IsAt, IsWeakAt, Treads};
 ghost use Rattle.hall.specs.Views.{standing};
 ghost use Rattle.hall.specs.declared.view.Standing.TheVariants.{Away, Inline, Exclusive};
 ghost use Rattle.shared_mutex.specs.Refused.{AddsReads};
+ghost use Rattle.sync_cell.specs.Gains.{GainedBy, refuses_reader, refuses_writer};
+ghost use Rattle.sync_cell.specs.Waits.{AskedInTime, AskedTooLate};
 ghost use Rattle.query_cells.specs.Answers.{Took, TurnedAway};
 
 use hall::{Hall, Pass, TryFault};
@@ -16,7 +18,7 @@ use std::thread;
 use sync_cell::{ReadPtr, WritePtr, rlock_until, try_rlock, try_wlock, wlock_until};
 
 /// Tries to hold the cell for reading, again after each try that another pass came between. `None` comes where the lock's
-/// word conflicted.
+/// word conflicted, at the first such word.
 pub(crate) fn try_to_read<R: Wait>(
     rt: &R,
     hall: &Hall<MapCargo>,
@@ -29,6 +31,7 @@ pub(crate) fn try_to_read<R: Wait>(
     ensures pass { IsPassOf hall.now pass.new }
     ensures trail { Treads (IsWeakAt cell) (view pass.old) (view pass.new) }
     ensures taken { MatchOption result (TurnedAway cell (view pass.old) (view pass.new)) (λ ptr. (ptr.guard.lock ≡ cell) × Took cell Inline (view pass.old) (view pass.new)) }
+    ensures tries { MatchOption result ⊤ (λ _. AddsReads (λ shape number added. GainedBy (λ e. refuses_reader shape.policy e ≡ false) cell number added) (view pass.old) (view pass.new)) }
     ensures busy { MatchOption result (AddsReads (λ shape number added. BusyForReading shape number added cell) (view pass.old) (view pass.new)) (λ _. ⊤) }
 {
     for _ in rt.forever() {
@@ -42,7 +45,7 @@ pub(crate) fn try_to_read<R: Wait>(
 }
 
 /// Tries to hold the cell for writing, again after each try that another pass came between. `None` comes where the lock's
-/// word conflicted, or counted readers.
+/// word conflicted, or counted readers, at the first such word.
 pub(crate) fn try_to_write<R: Wait>(
     rt: &R,
     hall: &Hall<MapCargo>,
@@ -55,6 +58,7 @@ pub(crate) fn try_to_write<R: Wait>(
     ensures pass { IsPassOf hall.now pass.new }
     ensures trail { Treads (IsAt cell) (view pass.old) (view pass.new) }
     ensures taken { MatchOption result (TurnedAway cell (view pass.old) (view pass.new)) (λ ptr. (ptr.guard.lock ≡ cell) × Took cell Exclusive (view pass.old) (view pass.new)) }
+    ensures tries { MatchOption result ⊤ (λ _. AddsReads (λ shape number added. GainedBy (λ e. refuses_writer e ≡ false) cell number added) (view pass.old) (view pass.new)) }
     ensures busy { MatchOption result (AddsReads (λ shape number added. BusyForWriting shape number added cell) (view pass.old) (view pass.new)) (λ _. ⊤) }
 {
     for _ in rt.forever() {
@@ -84,6 +88,7 @@ pub(crate) fn read_until<R: Wait, T: Clock>(
     ensures trail { Treads (IsWeakAt cell) (view pass.old) (view pass.new) }
     ensures taken { MatchResult result (λ ptr. (ptr.guard.lock ≡ cell) × Took cell Inline (view pass.old) (view pass.new)) (λ _. TurnedAway cell (view pass.old) (view pass.new)) }
     ensures late { MatchResult result (λ _. ⊤) (λ now. (deadline ≤ now) × (now ≡ T.last clock.new)) }
+    ensures clock { MatchResult result (λ _. (refusals : ℕ) × AskedInTime T.last T.answers deadline refusals clock.old clock.new) (λ now. (refusals : ℕ) × AskedTooLate T.last T.answers deadline refusals clock.old clock.new now) }
     ensures reads { MatchResult result (λ _. ⊤) (λ _. AddsReads (λ shape number added. BusyForReading shape number added cell ⊎ ReadTwoWords shape number added cell) (view pass.old) (view pass.new)) }
 {
     match rlock_until(rt, hall, pass, cell, clock, deadline) {
@@ -109,6 +114,7 @@ pub(crate) fn write_until<R: Wait, T: Clock>(
     ensures trail { Treads (IsAt cell) (view pass.old) (view pass.new) }
     ensures taken { MatchResult result (λ ptr. (ptr.guard.lock ≡ cell) × Took cell Exclusive (view pass.old) (view pass.new)) (λ _. TurnedAway cell (view pass.old) (view pass.new)) }
     ensures late { MatchResult result (λ _. ⊤) (λ now. (deadline ≤ now) × (now ≡ T.last clock.new)) }
+    ensures clock { MatchResult result (λ _. (refusals : ℕ) × AskedInTime T.last T.answers deadline refusals clock.old clock.new) (λ now. (refusals : ℕ) × AskedTooLate T.last T.answers deadline refusals clock.old clock.new now) }
     ensures reads { MatchResult result (λ _. ⊤) (λ _. AddsReads (λ shape number added. BusyForWriting shape number added cell ⊎ ReadTwoWords shape number added cell) (view pass.old) (view pass.new)) }
 {
     match wlock_until(rt, hall, pass, cell, clock, deadline) {

@@ -4,7 +4,7 @@ ghost use Rattle.hall.specs.Cargo.{exclusive_mode};
 ghost use Rattle.hall.specs.Passes.{view, IsPassOf, cargo_of};
 ghost use Rattle.hall.specs.Views.{standing, mode_of};
 ghost use Rattle.query_rules.specs.declared.query.Query.{Query};
-ghost use Rattle.query_rules.specs.Maps.{no_entries, reply_of};
+ghost use Rattle.query_rules.specs.Maps.{reply_of};
 ghost use Rattle.map_cargo.specs.History.{plain_of, IsSettled};
 ghost use Rattle.map_cargo.specs.Steps.{Suits, Alike, Reworded};
 ghost use Rattle.query_cells.specs.Answers.{Leaves};
@@ -25,10 +25,10 @@ pub(crate) fn store(
     requires suits { Suits hall.now }
     requires cell { cell < (cargo_of hall.now).cells }
     requires held { mode_of (standing (view pass.old) cell) ≡ exclusive_mode }
-    requires settled { IsSettled no_entries cell (view pass.old).part }
+    requires settled { IsSettled cell (view pass.old).part }
     ensures pass { IsPassOf hall.now pass.new × Alike (view pass.old) (view pass.new) }
     ensures part { Reworded cell (view pass.old).part (view pass.new).part }
-    ensures says { reply_of (cargo_of hall.now).rows (plain_of no_entries (view pass.old).part) (Query.Put cell key value) ≡ Some result }
+    ensures says { reply_of (cargo_of hall.now).rows (plain_of (view pass.old).part) (Query.Put cell key value) ≡ Some result }
     ensures leaves { Leaves cell (view pass.old) (view pass.new) (Query.Put cell key value) result }
 {
     match put(hall, pass, cell, key, value) {
@@ -44,10 +44,10 @@ pub(crate) fn remove(hall: &Hall<MapCargo>, pass: &mut Pass<MapCargo>, cell: u64
     requires suits { Suits hall.now }
     requires cell { cell < (cargo_of hall.now).cells }
     requires held { mode_of (standing (view pass.old) cell) ≡ exclusive_mode }
-    requires settled { IsSettled no_entries cell (view pass.old).part }
+    requires settled { IsSettled cell (view pass.old).part }
     ensures pass { IsPassOf hall.now pass.new × Alike (view pass.old) (view pass.new) }
     ensures part { Reworded cell (view pass.old).part (view pass.new).part }
-    ensures says { reply_of (cargo_of hall.now).rows (plain_of no_entries (view pass.old).part) (Query.Del cell key) ≡ Some result }
+    ensures says { reply_of (cargo_of hall.now).rows (plain_of (view pass.old).part) (Query.Del cell key) ≡ Some result }
     ensures leaves { Leaves cell (view pass.old) (view pass.new) (Query.Del cell key) result }
 {
     match del(hall, pass, cell, key) {
@@ -69,10 +69,10 @@ pub(crate) fn raise(
     requires suits { Suits hall.now }
     requires cell { cell < (cargo_of hall.now).cells }
     requires held { mode_of (standing (view pass.old) cell) ≡ exclusive_mode }
-    requires settled { IsSettled no_entries cell (view pass.old).part }
+    requires settled { IsSettled cell (view pass.old).part }
     ensures pass { IsPassOf hall.now pass.new × Alike (view pass.old) (view pass.new) }
     ensures part { Reworded cell (view pass.old).part (view pass.new).part }
-    ensures says { reply_of (cargo_of hall.now).rows (plain_of no_entries (view pass.old).part) (Query.Add cell key delta) ≡ Some result }
+    ensures says { reply_of (cargo_of hall.now).rows (plain_of (view pass.old).part) (Query.Add cell key delta) ≡ Some result }
     ensures leaves { Leaves cell (view pass.old) (view pass.new) (Query.Add cell key delta) result }
 {
     let had = get(hall, pass, cell, key);
@@ -99,10 +99,10 @@ pub(crate) fn swap(
     requires suits { Suits hall.now }
     requires cell { cell < (cargo_of hall.now).cells }
     requires held { mode_of (standing (view pass.old) cell) ≡ exclusive_mode }
-    requires settled { IsSettled no_entries cell (view pass.old).part }
+    requires settled { IsSettled cell (view pass.old).part }
     ensures pass { IsPassOf hall.now pass.new × Alike (view pass.old) (view pass.new) }
     ensures part { Reworded cell (view pass.old).part (view pass.new).part }
-    ensures says { reply_of (cargo_of hall.now).rows (plain_of no_entries (view pass.old).part) (Query.Cas cell key old new) ≡ Some result }
+    ensures says { reply_of (cargo_of hall.now).rows (plain_of (view pass.old).part) (Query.Cas cell key old new) ≡ Some result }
     ensures leaves { Leaves cell (view pass.old) (view pass.new) (Query.Cas cell key old new) result }
 {
     match get(hall, pass, cell, key) {
@@ -130,10 +130,10 @@ pub(crate) fn store_counted(
     requires suits { Suits hall.now }
     requires cell { cell < (cargo_of hall.now).cells }
     requires held { mode_of (standing (view pass.old) cell) ≡ exclusive_mode }
-    requires settled { IsSettled no_entries cell (view pass.old).part }
+    requires settled { IsSettled cell (view pass.old).part }
     ensures pass { IsPassOf hall.now pass.new × Alike (view pass.old) (view pass.new) }
     ensures part { Reworded cell (view pass.old).part (view pass.new).part }
-    ensures says { reply_of (cargo_of hall.now).rows (plain_of no_entries (view pass.old).part) (Query.PutLen cell key value) ≡ Some result }
+    ensures says { reply_of (cargo_of hall.now).rows (plain_of (view pass.old).part) (Query.PutLen cell key value) ≡ Some result }
     ensures leaves { Leaves cell (view pass.old) (view pass.new) (Query.PutLen cell key value) result }
 {
     match put(hall, pass, cell, key, value) {

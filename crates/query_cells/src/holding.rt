@@ -5,7 +5,8 @@ ghost use Rattle.hall.specs.Treading.{IsAt, IsWeakAt, Treads};
 ghost use Rattle.hall.specs.Views.{standing};
 ghost use Rattle.hall.specs.declared.view.Standing.TheVariants.{Away, Inline, Exclusive};
 ghost use Rattle.shared_mutex.specs.Acquiring.{ElsewhereSame};
-ghost use Rattle.query_rules.specs.Maps.{no_entries};
+ghost use Rattle.shared_mutex.specs.Refused.{AddsReads};
+ghost use Rattle.sync_cell.specs.Gains.{AnyStep, GainedBy};
 ghost use Rattle.map_cargo.specs.History.{IsSettled};
 ghost use Rattle.map_cargo.specs.Steps.{Gained, Left};
 ghost use Rattle.query_cells.specs.Answers.{LeadsBack};
@@ -28,7 +29,8 @@ pub(crate) fn hold_for_reading<R: Wait>(
     ensures pass { IsPassOf hall.now pass.new }
     ensures held { (result.guard.lock ≡ cell) × (standing (view pass.new) cell ≡ Inline) }
     ensures elsewhere { ElsewhereSame (view pass.old) (view pass.new) cell }
-    ensures gained { Gained no_entries cell (view pass.old) (view pass.new) }
+    ensures gained { Gained cell (view pass.old) (view pass.new) }
+    ensures tries { AddsReads (λ shape number added. GainedBy AnyStep cell number added) (view pass.old) (view pass.new) }
     ensures trail { Treads (IsWeakAt cell) (view pass.old) (view pass.new) }
 {
     rlock(rt, hall, pass, cell)
@@ -47,7 +49,8 @@ pub(crate) fn hold_for_writing<R: Wait>(
     ensures pass { IsPassOf hall.now pass.new }
     ensures held { (result.guard.lock ≡ cell) × (standing (view pass.new) cell ≡ Exclusive) }
     ensures elsewhere { ElsewhereSame (view pass.old) (view pass.new) cell }
-    ensures gained { Gained no_entries cell (view pass.old) (view pass.new) }
+    ensures gained { Gained cell (view pass.old) (view pass.new) }
+    ensures tries { AddsReads (λ shape number added. GainedBy AnyStep cell number added) (view pass.old) (view pass.new) }
     ensures trail { Treads (IsAt cell) (view pass.old) (view pass.new) }
 {
     wlock(rt, hall, pass, cell)
@@ -75,7 +78,7 @@ pub(crate) fn leave_writing(hall: &Hall<MapCargo>, pass: &mut Pass<MapCargo>, pt
     requires pass { IsPassOf hall.now pass.old }
     requires cell { ptr.guard.lock < (shape_of hall.now).locks }
     requires held { standing (view pass.old) ptr.guard.lock ≡ Exclusive }
-    requires settled { IsSettled no_entries ptr.guard.lock (view pass.old).part }
+    requires settled { IsSettled ptr.guard.lock (view pass.old).part }
     ensures pass { IsPassOf hall.now pass.new }
     ensures away { standing (view pass.new) ptr.guard.lock ≡ Away }
     ensures elsewhere { ElsewhereSame (view pass.old) (view pass.new) ptr.guard.lock }

@@ -6,7 +6,7 @@ ghost use Rattle.hall.specs.Views.{standing};
 ghost use Rattle.query_rules.specs.declared.query.Query.{Query};
 ghost use Rattle.map_cargo.specs.Licences.{LoadedOnce, MayRefuse};
 ghost use Rattle.map_cargo.specs.Steps.{Suits, IsIdle};
-ghost use Rattle.query_cells.specs.Asked.{IsForced, IsLateBy, is_granted};
+ghost use Rattle.query_cells.specs.Asked.{AsksClock, GoesByTries, IsForced, IsLateBy, OnlyTried, is_granted};
 ghost use Rattle.query_cells.specs.Answers.{Tells};
 
 use crate::attempts::{read_until, try_to_read, try_to_write, write_until};
@@ -56,6 +56,8 @@ pub(crate) fn ask_try_get<R: Wait>(
     ensures trail { Treads (IsWeakAt cell) (view pass.old) (view pass.new) }
     ensures tells { Tells (cargo_of hall.now) (view pass.old) (view pass.new) index (Query.TryGet cell key) result }
     ensures forced { IsForced (Query.TryGet cell key) result (view pass.old) (view pass.new) }
+    ensures refused { OnlyTried (Query.TryGet cell key) result (view pass.old) (view pass.new) }
+    ensures tries { GoesByTries (Query.TryGet cell key) result (view pass.old) (view pass.new) }
     ensures alone { (shape_of hall.now).seats ≡ 1 → is_granted result ≡ true }
     ensures late { (last : ℕ) → IsLateBy (Query.TryGet cell key) last result }
 {
@@ -84,6 +86,8 @@ pub(crate) fn ask_try_put<R: Wait>(
     ensures trail { Treads (IsAt cell) (view pass.old) (view pass.new) }
     ensures tells { Tells (cargo_of hall.now) (view pass.old) (view pass.new) index (Query.TryPut cell key value) result }
     ensures forced { IsForced (Query.TryPut cell key value) result (view pass.old) (view pass.new) }
+    ensures refused { OnlyTried (Query.TryPut cell key value) result (view pass.old) (view pass.new) }
+    ensures tries { GoesByTries (Query.TryPut cell key value) result (view pass.old) (view pass.new) }
     ensures alone { (shape_of hall.now).seats ≡ 1 → is_granted result ≡ true }
     ensures late { (last : ℕ) → IsLateBy (Query.TryPut cell key value) last result }
 {
@@ -112,8 +116,10 @@ pub(crate) fn ask_get_by<R: Wait, T: Clock>(
     ensures trail { Treads (IsWeakAt cell) (view pass.old) (view pass.new) }
     ensures tells { Tells (cargo_of hall.now) (view pass.old) (view pass.new) index (Query.GetBy cell key deadline) result }
     ensures forced { IsForced (Query.GetBy cell key deadline) result (view pass.old) (view pass.new) }
+    ensures refused { OnlyTried (Query.GetBy cell key deadline) result (view pass.old) (view pass.new) }
     ensures alone { (shape_of hall.now).seats ≡ 1 → is_granted result ≡ true }
     ensures late { IsLateBy (Query.GetBy cell key deadline) (T.last clock.new) result }
+    ensures clock { AsksClock T.last T.answers clock.old clock.new (Query.GetBy cell key deadline) result }
 {
     let query = Query::GetBy {
         cell,
@@ -146,8 +152,10 @@ pub(crate) fn ask_put_by<R: Wait, T: Clock>(
     ensures trail { Treads (IsAt cell) (view pass.old) (view pass.new) }
     ensures tells { Tells (cargo_of hall.now) (view pass.old) (view pass.new) index (Query.PutBy cell key value deadline) result }
     ensures forced { IsForced (Query.PutBy cell key value deadline) result (view pass.old) (view pass.new) }
+    ensures refused { OnlyTried (Query.PutBy cell key value deadline) result (view pass.old) (view pass.new) }
     ensures alone { (shape_of hall.now).seats ≡ 1 → is_granted result ≡ true }
     ensures late { IsLateBy (Query.PutBy cell key value deadline) (T.last clock.new) result }
+    ensures clock { AsksClock T.last T.answers clock.old clock.new (Query.PutBy cell key value deadline) result }
 {
     let query = Query::PutBy {
         cell,

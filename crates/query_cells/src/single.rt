@@ -5,7 +5,7 @@ ghost use Rattle.hall.specs.Treading.{IsAt, IsWeakAt, Treads};
 ghost use Rattle.hall.specs.Views.{standing, mode_of};
 ghost use Rattle.hall.specs.declared.view.Standing.TheVariants.{Inline, Exclusive};
 ghost use Rattle.query_rules.specs.declared.query.Query.{Query};
-ghost use Rattle.query_rules.specs.Maps.{no_entries, get_says};
+ghost use Rattle.query_rules.specs.Maps.{get_says};
 ghost use Rattle.map_cargo.specs.History.{plain_of, IsSettled, IsRested};
 ghost use Rattle.map_cargo.specs.Steps.{Suits, Alike, IsIdle};
 ghost use Rattle.query_cells.specs.Asked.{is_granted};
@@ -26,10 +26,10 @@ fn look_up(hall: &Hall<MapCargo>, pass: &mut Pass<MapCargo>, cell: u64, key: u64
     requires suits { Suits hall.now }
     requires cell { cell < (cargo_of hall.now).cells }
     requires held { mode_of (standing (view pass.old) cell) ≢ None }
-    requires settled { IsSettled no_entries cell (view pass.old).part }
+    requires settled { IsSettled cell (view pass.old).part }
     ensures pass { IsPassOf hall.now pass.new × Alike (view pass.old) (view pass.new) }
     ensures part { (view pass.new).part ≡ (view pass.old).part }
-    ensures said { result ≡ get_says ((plain_of no_entries (view pass.old).part cell).value_at key) }
+    ensures said { result ≡ get_says ((plain_of (view pass.old).part cell).value_at key) }
 {
     match get(hall, pass, cell, key) {
         Some(value) => Said::Found(value),
@@ -52,7 +52,7 @@ pub(crate) fn answer_value(
     requires cell { (ptr.guard.lock < (cargo_of hall.now).cells) × (ptr.guard.lock < (shape_of hall.now).locks) }
     requires held { standing (view pass.old) ptr.guard.lock ≡ Inline }
     requires only { OnlyAt ptr.guard.lock (view pass.old) }
-    requires settled { IsSettled no_entries ptr.guard.lock (view pass.old).part }
+    requires settled { IsSettled ptr.guard.lock (view pass.old).part }
     requires rested { IsRested (view pass.old).part }
     requires asks { AsksValue query.now ptr.guard.lock key }
     ensures pass { IsPassOf hall.now pass.new × IsIdle (view pass.new) }
@@ -80,7 +80,7 @@ pub(crate) fn answer_put(
     requires cell { (ptr.guard.lock < (cargo_of hall.now).cells) × (ptr.guard.lock < (shape_of hall.now).locks) }
     requires held { standing (view pass.old) ptr.guard.lock ≡ Exclusive }
     requires only { OnlyAt ptr.guard.lock (view pass.old) }
-    requires settled { IsSettled no_entries ptr.guard.lock (view pass.old).part }
+    requires settled { IsSettled ptr.guard.lock (view pass.old).part }
     requires rested { IsRested (view pass.old).part }
     requires quota { 1 ≤ (view pass.old).quota }
     requires asks { AsksPut query.now ptr.guard.lock key value }

@@ -6,7 +6,7 @@ ghost use Rattle.hall.specs.Treading.{IsAt, IsWeakAt, Treads};
 ghost use Rattle.hall.specs.Views.{standing};
 ghost use Rattle.hall.specs.declared.view.Standing.TheVariants.{Inline, Exclusive};
 ghost use Rattle.query_rules.specs.Maps as plain;
-ghost use Rattle.query_rules.specs.Maps.{no_entries, reply_of};
+ghost use Rattle.query_rules.specs.Maps.{reply_of};
 ghost use Rattle.map_cargo.specs.Entries.{named_cells, spoken_cells};
 ghost use Rattle.map_cargo.specs.History.{plain_of, IsRested};
 ghost use Rattle.map_cargo.specs.Steps.{Suits, Stays, Alike, IsIdle, MayDraw, MayPlace};
@@ -55,8 +55,8 @@ pub(crate) fn tell_read(
 ) -> Reply
     requires pass { IsPassOf hall.now pass.old }
     requires suits { Suits hall.now }
-    requires may { MayPlace no_entries (cargo_of hall.now) (view pass.old) (entry_for (view pass.old).number index query.now said) }
-    requires holds { HoldsFor query.now (view pass.old) }
+    requires may { MayPlace (cargo_of hall.now) (view pass.old) (entry_for (view pass.old).number index query.now said) }
+    requires holds { HoldsFor query.now said (view pass.old) }
     requires rested { IsRested (view pass.old).part }
     ensures pass { IsPassOf hall.now pass.new × Alike (view pass.old) (view pass.new) }
     ensures tells { Tells (cargo_of hall.now) (view pass.old) (view pass.new) index query.now result }
@@ -87,8 +87,8 @@ fn tell_write(
 ) -> Reply
     requires pass { IsPassOf hall.now pass.old }
     requires suits { Suits hall.now }
-    requires may { MayDraw no_entries (cargo_of hall.now) (view pass.old) (entry_for (view pass.old).number index query.now said) }
-    requires mode { mode_for query.now ≡ exclusive_mode }
+    requires may { MayDraw (cargo_of hall.now) (view pass.old) (entry_for (view pass.old).number index query.now said) }
+    requires mode { mode_for query.now said ≡ exclusive_mode }
     requires quota { 1 ≤ (view pass.old).quota }
     ensures pass { IsPassOf hall.now pass.new × Stays (view pass.old) (view pass.new) }
     ensures tells { Tells (cargo_of hall.now) (view pass.old) (view pass.new) index query.now result }
@@ -150,8 +150,8 @@ pub(crate) fn answer_read(
     requires cell { ptr.guard.lock < (shape_of hall.now).locks }
     requires held { standing (view pass.old) ptr.guard.lock ≡ Inline }
     requires only { OnlyAt ptr.guard.lock (view pass.old) }
-    requires may { MayPlace no_entries (cargo_of hall.now) (view pass.old) (entry_for (view pass.old).number index query.now said) }
-    requires mode { mode_for query.now ≡ shared_mode }
+    requires may { MayPlace (cargo_of hall.now) (view pass.old) (entry_for (view pass.old).number index query.now said) }
+    requires mode { mode_for query.now said ≡ shared_mode }
     requires rested { IsRested (view pass.old).part }
     ensures pass { IsPassOf hall.now pass.new }
     ensures idle { IsIdle (view pass.new) }

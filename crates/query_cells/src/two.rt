@@ -5,11 +5,13 @@ ghost use Rattle.hall.specs.Treading.{Treads};
 ghost use Rattle.hall.specs.Views.{standing};
 ghost use Rattle.hall.specs.declared.view.Standing.TheVariants.{Inline, Exclusive};
 ghost use Rattle.query_rules.specs.declared.query.Query.{Query};
-ghost use Rattle.query_rules.specs.Maps.{no_entries, reply_of, less};
+ghost use Rattle.query_rules.specs.Maps.{reply_of, less};
 ghost use Rattle.map_cargo.specs.Cells.{Means};
 ghost use Rattle.map_cargo.specs.History.{words_of, plain_of, IsSettled, IsRested};
 ghost use Rattle.map_cargo.specs.Steps.{Suits, Alike, Reworded, IsIdle, Left};
-ghost use Rattle.query_cells.specs.Asked.{MayTread, is_granted};
+ghost use Rattle.shared_mutex.specs.Refused.{AddsReads};
+ghost use Rattle.sync_cell.specs.Gains.{GainedInOrder};
+ghost use Rattle.query_cells.specs.Asked.{MayTread, TakesInOrder, is_granted};
 ghost use Rattle.query_cells.specs.Answers.{ChangesWords, HoldsTwo, IsAtEither, IsWeakAtEither, LeadsBack, Leaves, Tells, TellsNothing};
 
 use crate::holding::{hold_for_reading, hold_for_writing, leave_reading, leave_writing};
@@ -49,6 +51,7 @@ fn hold_two_for_writing<R: Wait>(
     ensures cells { (result.0.guard.lock ≡ low) × (result.1.guard.lock ≡ high) }
     ensures held { HoldsTwo low high Exclusive (view pass.new) }
     ensures nothing { TellsNothing (view pass.old) (view pass.new) }
+    ensures order { AddsReads (λ shape number added. GainedInOrder low high number added) (view pass.old) (view pass.new) }
     ensures trail { Treads (IsAtEither low high) (view pass.old) (view pass.new) }
 {
     let first = hold_for_writing(rt, hall, pass, low);
@@ -72,6 +75,7 @@ fn hold_two_for_reading<R: Wait>(
     ensures cells { (result.0.guard.lock ≡ low) × (result.1.guard.lock ≡ high) }
     ensures held { HoldsTwo low high Inline (view pass.new) }
     ensures nothing { TellsNothing (view pass.old) (view pass.new) }
+    ensures order { AddsReads (λ shape number added. GainedInOrder low high number added) (view pass.old) (view pass.new) }
     ensures trail { Treads (IsWeakAtEither low high) (view pass.old) (view pass.new) }
 {
     let first = hold_for_reading(rt, hall, pass, low);
@@ -137,12 +141,12 @@ fn lessen(
     requires suits { Suits hall.now }
     requires cell { cell < (cargo_of hall.now).cells }
     requires held { standing (view pass.old) cell ≡ Exclusive }
-    requires settled { IsSettled no_entries cell (view pass.old).part }
-    requires has { has ≡ (plain_of no_entries (view pass.old).part cell).value_at key }
+    requires settled { IsSettled cell (view pass.old).part }
+    requires has { has ≡ (plain_of (view pass.old).part cell).value_at key }
     requires enough { n ≤ unwrap_or has 0 }
     ensures pass { IsPassOf hall.now pass.new × Alike (view pass.old) (view pass.new) }
     ensures part { Reworded cell (view pass.old).part (view pass.new).part }
-    ensures less { Means (words_of (view pass.new).part cell) (less (plain_of no_entries (view pass.old).part cell) key n) }
+    ensures less { Means (words_of (view pass.new).part cell) (less (plain_of (view pass.old).part cell) key n) }
 {
     if let Some(amount) = has {
         let Ok(_) = put(hall, pass, cell, key, amount - n) else {
@@ -168,7 +172,7 @@ fn shift(
     requires held { HoldsTwo from to Exclusive (view pass.old) }
     ensures pass { IsPassOf hall.now pass.new }
     ensures words { ChangesWords (view pass.old) (view pass.new) }
-    ensures says { reply_of (cargo_of hall.now).rows (plain_of no_entries (view pass.old).part) (Query.Move from to key n) ≡ Some result }
+    ensures says { reply_of (cargo_of hall.now).rows (plain_of (view pass.old).part) (Query.Move from to key n) ≡ Some result }
     ensures from { Leaves from (view pass.old) (view pass.new) (Query.Move from to key n) result }
     ensures to { Leaves to (view pass.old) (view pass.new) (Query.Move from to key n) result }
 {
@@ -205,7 +209,7 @@ fn look_up_two(
     ensures pass { IsPassOf hall.now pass.new }
     ensures words { ChangesWords (view pass.old) (view pass.new) }
     ensures part { (view pass.new).part ≡ (view pass.old).part }
-    ensures says { reply_of (cargo_of hall.now).rows (plain_of no_entries (view pass.old).part) (Query.Both first second key) ≡ Some result }
+    ensures says { reply_of (cargo_of hall.now).rows (plain_of (view pass.old).part) (Query.Both first second key) ≡ Some result }
 {
     let one = get(hall, pass, first, key);
     let other = get(hall, pass, second, key);
@@ -232,6 +236,7 @@ pub(crate) fn ask_move<R: Wait>(
     ensures tells { Tells (cargo_of hall.now) (view pass.old) (view pass.new) index (Query.Move from to key n) result }
     ensures granted { is_granted result ≡ true }
     ensures trail { Treads (MayTread (Query.Move from to key n)) (view pass.old) (view pass.new) }
+    ensures order { TakesInOrder (Query.Move from to key n) (view pass.old) (view pass.new) }
 {
     let query = Query::Move { from, to, key, n };
     if from == to {
@@ -263,6 +268,7 @@ pub(crate) fn ask_both<R: Wait>(
     ensures tells { Tells (cargo_of hall.now) (view pass.old) (view pass.new) index (Query.Both first second key) result }
     ensures granted { is_granted result ≡ true }
     ensures trail { Treads (MayTread (Query.Both first second key)) (view pass.old) (view pass.new) }
+    ensures order { TakesInOrder (Query.Both first second key) (view pass.old) (view pass.new) }
 {
     let query = Query::Both { first, second, key };
     if first == second {

@@ -22,10 +22,10 @@ module _ {C P : Type 0} (g : Ghosts C P) where
   TakesShared v lock w = (seen : ℕ) × (conflicts_for_shared v.shape.policy seen ≡ false) × Enters g (after_look v kinds.Load lock seen) lock seen w
 
   -- Busy: one load, from outside, found this word, which conflicts; so a writer or an upgrade holder was there.
-  -- Raced: one load and then one failed exchange found these two words, which differ; so another seat was there
+  -- Raced: one load found a word that doesn't conflict, and then one failed exchange another word; so another seat was there
   abbrev pub RefusesShared : View P → ℕ → View P → TryFault → Type 0
   RefusesShared v lock w (Busy word) = (conflicts_for_shared v.shape.policy word ≡ true) × (w ≡ after_look v kinds.Load lock word) × MetAWriter g w lock
-  RefusesShared v lock w (Raced expected found) = (expected ≢ found) × (w ≡ after_look (after_look v kinds.Load lock expected) kinds.Enter lock found) × WasNotAlone g w lock
+  RefusesShared v lock w (Raced expected found) = (expected ≢ found) × (w ≡ after_look (after_look v kinds.Load lock expected) kinds.Enter lock found) × WasNotAlone g w lock × (conflicts_for_shared v.shape.policy expected ≡ false)
 
   -- one load found a word that doesn't conflict, and one exchange from it announced the writer
   abbrev pub AnnouncesWriter : View P → ℕ → View P → Type 0
@@ -33,7 +33,7 @@ module _ {C P : Type 0} (g : Ghosts C P) where
 
   abbrev pub RefusesAnnouncing : View P → ℕ → View P → TryFault → Type 0
   RefusesAnnouncing v lock w (Busy word) = (conflicts_for_announcing word ≡ true) × (w ≡ after_look v kinds.Load lock word) × MetAWriter g w lock
-  RefusesAnnouncing v lock w (Raced expected found) = (expected ≢ found) × (w ≡ after_look (after_look v kinds.Load lock expected) kinds.Announce lock found) × WasNotAlone g w lock
+  RefusesAnnouncing v lock w (Raced expected found) = (expected ≢ found) × (w ≡ after_look (after_look v kinds.Load lock expected) kinds.Announce lock found) × WasNotAlone g w lock × (conflicts_for_announcing expected ≡ false)
 
   -- the announced writer took the lock: from outside it gained its mode, and from upgrade it raised it
   abbrev pub Finishes : Bool → View P → ℕ → View P → Type 0

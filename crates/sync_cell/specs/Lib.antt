@@ -1,6 +1,8 @@
 pub mod Cells
 pub mod Attempts
 pub mod AttemptLaws
+pub mod Gains
+pub mod GainLaws
 pub mod Waits
 pub mod TrailLaws
 pub mod Refused

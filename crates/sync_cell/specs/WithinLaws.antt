@@ -6,7 +6,6 @@ use Rattle.hall.specs.declared.view.View.{View}
 use Rattle.hall.specs.declared.view.Kind.TheVariants as kinds
 use Rattle.hall.specs.declared.view.Standing.TheVariants.{Inline, Exclusive}
 use Rattle.hall.specs.Views.{after_look, entry_of}
-use Rattle.query_rules.specs.Maps.{no_entries}
 use Rattle.map_cargo.specs.declared.entry.Part.{Part}
 use Rattle.map_cargo.specs.Gaining.{gained_by, gained_from}
 use Rattle.map_cargo.specs.StepLaws.{more_one, more_then}
@@ -32,19 +31,19 @@ announced_more v cell faults a s =
     record { added = swept.added; stand = swept.steps }
 
 -- its words mean its map, and all else that the pass knew stays
-pub gained_to_read : (v : View Part) (cell : ℕ) (faults : List TryFault) (w : View Part) → EntersAtLast maps v cell faults w → Gained no_entries cell v w
+pub gained_to_read : (v : View Part) (cell : ℕ) (faults : List TryFault) (w : View Part) → EntersAtLast maps v cell faults w → Gained cell v w
 gained_to_read v cell faults w s =
     let u : View Part = s.0 in let looked = s.2 in let look : View Part = after_look u kinds.Load cell s.3.0 in
-    gained_from no_entries cell look v w looked.part looked.number looked.quota looked.span looked.taken (more_then v u look (looked_more v u cell looked) (load_more u cell s.3.0)) (gained_by no_entries kinds.Enter Inline _ cell s.3.0 w s.3.2.0)
+    gained_from cell look v w looked.part looked.number looked.quota looked.span looked.taken (more_then v u look (looked_more v u cell looked) (load_more u cell s.3.0)) (gained_by kinds.Enter Inline _ cell s.3.0 w s.3.2.0)
 
-pub gained_to_write : (v : View Part) (cell : ℕ) (faults misses : List TryFault) (w : View Part) → WritesAtLast maps v cell faults misses w → Gained no_entries cell v w
+pub gained_to_write : (v : View Part) (cell : ℕ) (faults misses : List TryFault) (w : View Part) → WritesAtLast maps v cell faults misses w → Gained cell v w
 gained_to_write v cell faults misses w s =
     let first = s.1 in let won = first.3 in let is = won.1.2.0 in let last = s.2 in let swept = sweep_goes maps cell v.shape.slots won.2.0 won.0 s.0 won.2.1 in
-    gained_from no_entries cell last.0 v w
+    gained_from cell last.0 v w
     (last.2.part ∙ swept.part ∙ ap (λ (z : View Part). z.part) is ∙ first.2.part)
     (last.2.number ∙ swept.number ∙ ap (λ (z : View Part). z.number) is ∙ first.2.number)
     (last.2.quota ∙ swept.quota ∙ ap (λ (z : View Part). z.quota) is ∙ first.2.quota)
     (last.2.span ∙ swept.span ∙ ap (λ (z : View Part). z.span) is ∙ first.2.span)
     (last.2.taken ∙ swept.taken ∙ ap (λ (z : View Part). z.taken) is ∙ first.2.taken)
     (more_then v s.0 last.0 (announced_more v cell faults s.0 first) (looked_more s.0 last.0 cell last.2))
-    (gained_by no_entries kinds.Hold Exclusive last.0 cell 4 w last.3.0)
+    (gained_by kinds.Hold Exclusive last.0 cell 4 w last.3.0)

@@ -3,7 +3,6 @@ ghost use Rattle.std.specs.Prelude.{◌≡◌, ◌≢◌, ◌<◌, ℕ};
 ghost use Rattle.hall.specs.Passes.{view, IsPassOf, shape_of};
 ghost use Rattle.hall.specs.Views.{standing};
 ghost use Rattle.hall.specs.declared.view.Standing.TheVariants.{Away, Inline, Exclusive};
-ghost use Rattle.query_rules.specs.Maps.{no_entries};
 ghost use Rattle.map_cargo.specs.History.{IsSettled, IsRested};
 ghost use Rattle.map_cargo.specs.Steps.{Gained, IsIdle};
 ghost use Rattle.sync_cell.specs.Within.{KeepsModes};
@@ -32,7 +31,7 @@ fn hold<R: Wait>(rt: &R, hall: &Hall<MapCargo>, pass: &mut Pass<MapCargo>) -> Wr
     ensures pass { IsPassOf hall.now pass.new }
     ensures held { (result.guard.lock ≡ 0) × (standing (view pass.new) 0 ≡ Exclusive) }
     ensures others { (k : ℕ) → k ≢ 0 → standing (view pass.new) k ≡ Away }
-    ensures gained { Gained no_entries 0 (view pass.old) (view pass.new) }
+    ensures gained { Gained 0 (view pass.old) (view pass.new) }
 {
     wlock(rt, hall, pass, 0)
 }
@@ -50,7 +49,7 @@ fn hold_at_once<A: Abort + Wait>(
     ensures pass { IsPassOf hall.now pass.new }
     ensures held { (result.guard.lock ≡ 0) × (standing (view pass.new) 0 ≡ Exclusive) }
     ensures others { (k : ℕ) → k ≢ 0 → standing (view pass.new) k ≡ Away }
-    ensures gained { Gained no_entries 0 (view pass.old) (view pass.new) }
+    ensures gained { Gained 0 (view pass.old) (view pass.new) }
 {
     match wlock_until(rt, hall, pass, 0, clock, 0) {
         Ok(ptr) => ptr,
@@ -64,7 +63,7 @@ fn give_back(hall: &Hall<MapCargo>, pass: &mut Pass<MapCargo>, ptr: WritePtr)
     requires cell { ptr.guard.lock < (shape_of hall.now).locks }
     requires held { standing (view pass.old) ptr.guard.lock ≡ Exclusive }
     requires others { (k : ℕ) → k ≢ ptr.guard.lock → standing (view pass.old) k ≡ Away }
-    requires settled { IsSettled no_entries ptr.guard.lock (view pass.old).part }
+    requires settled { IsSettled ptr.guard.lock (view pass.old).part }
     requires rested { IsRested (view pass.old).part }
     ensures pass { IsPassOf hall.now pass.new }
     ensures idle { IsIdle (view pass.new) }

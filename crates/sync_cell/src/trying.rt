@@ -5,7 +5,7 @@ ghost use Rattle.hall.specs.Plays.{GivesBack, Releases};
 ghost use Rattle.hall.specs.Views.{standing};
 ghost use Rattle.hall.specs.declared.view.Standing.TheVariants.{Away, Inline, Exclusive};
 ghost use Rattle.shared_mutex.specs.Acquiring.{ElsewhereSame, MadeAtMost, RefusesExclusive, RefusesShared, TakesExclusive, TakesShared};
-ghost use Rattle.query_rules.specs.Maps.{no_entries};
+ghost use Rattle.shared_mutex.specs.Tries.{AddsSteps, IsTry};
 ghost use Rattle.map_cargo.specs.History.{IsSettled};
 ghost use Rattle.sync_cell.specs.Cells.{maps};
 
@@ -17,7 +17,8 @@ use shared_mutex::{try_lock, try_lock_shared, unlock, unlock_shared};
 /// Tries to hold the cell for reading, by one load and one exchange. The pass has to be away from the cell, and is away
 /// after a refusal.
 ///
-/// `Busy` comes exactly where the loaded word conflicts, `Raced` exactly where the exchange failed. At most 2 steps.
+/// `Busy` comes exactly where the loaded word conflicts, `Raced` exactly where the exchange failed. At most 2 steps, each
+/// made with no mode held at the cell.
 pub fn try_rlock(
     hall: &Hall<MapCargo>,
     pass: &mut Pass<MapCargo>,
@@ -31,6 +32,7 @@ pub fn try_rlock(
     ensures stands { MatchResult result (λ _. standing (view pass.new) cell ≡ Inline) (λ _. standing (view pass.new) cell ≡ Away) }
     ensures elsewhere { ElsewhereSame (view pass.old) (view pass.new) cell }
     ensures steps { MadeAtMost (view pass.old) (view pass.new) 2 }
+    ensures tries { AddsSteps (IsTry (view pass.old) cell) (view pass.old) (view pass.new) }
 {
     match try_lock_shared(hall, pass, cell) {
         Ok(guard) => Ok(ReadPtr { guard }),
@@ -40,7 +42,7 @@ pub fn try_rlock(
 
 /// Tries to hold the cell for writing: it announces a writer, sweeps, and tries once to finish. Where readers are inside
 /// it takes the announcement back, and answers `Busy` with the word that counted them. The pass has to be away from the
-/// cell, and is away after a refusal. At most 2 steps for each slot, and 5 more.
+/// cell, and is away after a refusal. At most 2 steps for each slot, and 5 more, each made with no mode held at the cell.
 pub fn try_wlock(
     hall: &Hall<MapCargo>,
     pass: &mut Pass<MapCargo>,
@@ -54,6 +56,7 @@ pub fn try_wlock(
     ensures stands { MatchResult result (λ _. standing (view pass.new) cell ≡ Exclusive) (λ _. standing (view pass.new) cell ≡ Away) }
     ensures elsewhere { ElsewhereSame (view pass.old) (view pass.new) cell }
     ensures steps { MadeAtMost (view pass.old) (view pass.new) (2 * (shape_of hall.now).slots + 5) }
+    ensures tries { AddsSteps (IsTry (view pass.old) cell) (view pass.old) (view pass.new) }
 {
     match try_lock(hall, pass, cell) {
         Ok(guard) => Ok(WritePtr { guard }),
@@ -81,7 +84,7 @@ pub fn unlock_write(hall: &Hall<MapCargo>, pass: &mut Pass<MapCargo>, ptr: Write
     requires pass { IsPassOf hall.now pass.old }
     requires cell { ptr.guard.lock < (shape_of hall.now).locks }
     requires exclusive { standing (view pass.old) ptr.guard.lock ≡ Exclusive }
-    requires settled { IsSettled no_entries ptr.guard.lock (view pass.old).part }
+    requires settled { IsSettled ptr.guard.lock (view pass.old).part }
     ensures pass { IsPassOf hall.now pass.new }
     ensures step { Releases maps (view pass.old) ptr.guard.lock 8 (view pass.new) }
     ensures away { standing (view pass.new) ptr.guard.lock ≡ Away }

@@ -4,7 +4,6 @@ ghost use Rattle.hall.specs.Passes.{view, IsPassOf, shape_of};
 ghost use Rattle.hall.specs.Plays.{GivesBack, Releases};
 ghost use Rattle.hall.specs.Views.{standing};
 ghost use Rattle.hall.specs.declared.view.Standing.TheVariants.{Away, Inline, Exclusive};
-ghost use Rattle.query_rules.specs.Maps.{no_entries};
 ghost use Rattle.map_cargo.specs.History.{IsSettled};
 ghost use Rattle.sync_cell.specs.Cells.{maps};
 ghost use Rattle.sync_cell.specs.Within.{Answers, KeepsModesElsewhere, MayTake, StillHolds, TookToRead, TookToWrite, reads_at, writes_at};
@@ -63,7 +62,7 @@ pub fn with_wlock<W: Wait, R, F: FnOnce(&Hall<MapCargo>, &mut Pass<MapCargo>, &W
     requires cell { cell < (shape_of hall.now).locks }
     requires away { standing (view pass.old) cell ≡ Away }
     requires ready { (held : _) → TookToWrite hall.now (view pass.old) cell held → MayTake F.FnOnce f hall.now held (writes_at cell) }
-    requires leaves { (held answer after : _) → TookToWrite hall.now (view pass.old) cell held → Answers F.FnOnce f hall.now held (writes_at cell) answer after → StillHolds hall.now cell Exclusive held after × IsSettled no_entries cell (view after).part }
+    requires leaves { (held answer after : _) → TookToWrite hall.now (view pass.old) cell held → Answers F.FnOnce f hall.now held (writes_at cell) answer after → StillHolds hall.now cell Exclusive held after × IsSettled cell (view after).part }
     ensures pass { IsPassOf hall.now pass.new }
     ensures away { standing (view pass.new) cell ≡ Away }
     ensures elsewhere { KeepsModesElsewhere (view pass.old) (view pass.new) cell }

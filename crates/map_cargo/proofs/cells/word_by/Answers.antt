@@ -9,7 +9,7 @@ use Rattle.map_cargo.specs.StepLaws.{noted_alike}
 use Rattle.map_cargo.proofs.cells.word_by.Goals as goal
 
 pub load_cargo-requires-clause-note : goal.load_cargo-requires-clause-note
-load_cargo-requires-clause-note g c κs within = reads _ _ _ c.args.cell c.args.index _ _ _ _ _ (search rules) c.requires.cell.1 c.requires.index.1 c.requires.index.2 c.requires.cell.0 c.requires.index.0 (λ e. c.requires.held (sym (get_or-map mode_of _ c.args.cell Away) ∙ e))
+load_cargo-requires-clause-note g c κs within = reads _ _ c.args.cell c.args.index _ _ _ _ _ (search rules) c.requires.cell.1 c.requires.index.1 c.requires.index.2 c.requires.cell.0 c.requires.index.0 (λ e. c.requires.held (sym (get_or-map mode_of _ c.args.cell Away) ∙ e))
 
 pub returns-clause-pass : goal.returns-clause-pass
 returns-clause-pass g c =

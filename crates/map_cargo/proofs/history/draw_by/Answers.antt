@@ -9,7 +9,7 @@ use Rattle.map_cargo.specs.StepLaws.{noted_stays}
 use Rattle.map_cargo.proofs.history.draw_by.Goals as goal
 
 pub add_cargo-requires-clause-note : goal.add_cargo-requires-clause-note
-add_cargo-requires-clause-note g c κs within = let may = c.requires.may in draws _ _ _ _ _ c.args.entry.now _ _ (search rules) c.requires.entry.0 c.requires.entry.1 c.requires.quota may.near (λ cell has. get_or-map mode_of _ cell Away ∙ may.holds cell has) may.said may.writes may.rested
+add_cargo-requires-clause-note g c κs within = let may = c.requires.may in draws _ _ _ _ c.args.entry.now _ _ (search rules) c.requires.entry.0 c.requires.entry.1 c.requires.quota may.near (λ cell has. get_or-map mode_of _ cell Away ∙ may.holds cell has) may.said may.writes may.rested
 
 pub returns-clause-pass : goal.returns-clause-pass
 returns-clause-pass g c =

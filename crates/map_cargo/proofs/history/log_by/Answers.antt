@@ -6,7 +6,7 @@ use Rattle.map_cargo.specs.StepLaws.{noted_alike}
 use Rattle.map_cargo.proofs.history.log_by.Goals as goal
 
 pub store_cargo-requires-clause-note : goal.store_cargo-requires-clause-note
-store_cargo-requires-clause-note g c κs within = logs _ _ _ _ _ c.args.number c.args.index _ c.args.entry.now _ (search rules) c.requires.index.1 c.requires.index.0 (sym c.requires.number.1) c.requires.index.2 c.requires.entry c.requires.value
+store_cargo-requires-clause-note g c κs within = logs _ _ _ _ c.args.number c.args.index _ c.args.entry.now _ (search rules) c.requires.index.1 c.requires.index.0 (sym c.requires.number.1) c.requires.index.2 c.requires.entry c.requires.value
 
 pub returns-clause-pass : goal.returns-clause-pass
 returns-clause-pass g c =

@@ -6,7 +6,7 @@ use Rattle.map_cargo.proofs.refusing.refuse_by.Goals as goal
 
 pub load_noted-requires-clause-note : goal.load_noted-requires-clause-note
 load_noted-requires-clause-note g c κs within = let v = view c.args.pass.now in let may = c.requires.may in
-    refuses _ _ _ v.number c.args.index c.args.query.now c.args.reply.now _ _ c.requires.told (is_refusal v.shape v.number v.steps c.args.query.now c.args.reply.now may.licence)
+    refuses _ _ v.number c.args.index c.args.query.now c.args.reply.now _ _ c.requires.told (is_refusal v.shape v.number v.steps c.args.query.now c.args.reply.now may.licence)
 
 pub returns-clause-others : goal.returns-clause-others
 returns-clause-others g c = let v = view c.args.pass.now in let may = c.requires.may in

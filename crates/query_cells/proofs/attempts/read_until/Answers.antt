@@ -1,10 +1,12 @@
+use Rattle.std.proofs.Common.{◌+◌, length, refl}
+use Rattle.shared_mutex.specs.Tries.{IsPatientTry, IsTry}
+use Rattle.shared_mutex.specs.TryLaws.{adds_as}
 use Rattle.hall.specs.declared.view.Kind.TheVariants as kinds
 use Rattle.hall.specs.Passes.{view}
 use Rattle.hall.specs.Views.{after_look}
 use Rattle.sync_cell.specs.Refused.{reader_late}
-use Rattle.query_rules.specs.Maps.{no_entries}
 use Rattle.map_cargo.specs.Gaining.{gained_by}
-use Rattle.query_cells.proofs.Taking.{gained_later, late_reads, unchanged_look, unchanged_once, unchanged_then}
+use Rattle.query_cells.proofs.Taking.{gained_later, late_reads, turned_away, unchanged_look, unchanged_none, unchanged_once, unchanged_then}
 use Rattle.shared_mutex.specs.TrailLaws.{enters_treads, looked_weak}
 use Rattle.query_cells.proofs.attempts.read_until.Goals as goal
 
@@ -15,7 +17,7 @@ returns-in-Ok-clause-taken g c =
       record {
         stands = e.stands;
         elsewhere = e.elsewhere;
-        gained = gained_later c.args.cell v u (view c.rlock_until.new.pass) (unchanged_then v s.0 u (unchanged_look v s.0 c.args.cell s.2) (unchanged_once s.0 kinds.Load c.args.cell s.3.0)) (gained_by no_entries _ _ _ _ _ _ s.3.2.0);
+        gained = gained_later c.args.cell v u (view c.rlock_until.new.pass) (unchanged_then v s.0 u (unchanged_look v s.0 c.args.cell s.2) (unchanged_once s.0 kinds.Load c.args.cell s.3.0)) (gained_by _ _ _ _ _ _ s.3.2.0);
       },
     )
 
@@ -29,3 +31,14 @@ returns-in-Ok-clause-trail g c = let s = c.in-Ok.ensures.step in enters_treads _
 
 pub returns-in-Err-clause-trail : goal.returns-in-Err-clause-trail
 returns-in-Err-clause-trail g c = looked_weak (view c.args.pass.now) (view c.rlock_until.new.pass) c.args.cell c.requires.away c.in-Err.ensures.step.2
+
+pub returns-in-Err-clause-taken : goal.returns-in-Err-clause-taken
+returns-in-Err-clause-taken g c =
+    let e = c.in-Err.ensures in let v = view c.args.pass.now in let w = view c.rlock_until.new.pass in
+    turned_away v v w c.args.cell (unchanged_none v) (unchanged_look v w c.args.cell e.step.2) (λ k ne. refl) e.elsewhere e.stands (adds_as (IsPatientTry v c.args.cell) (IsTry v c.args.cell) v w (λ x p. p.0) e.steps)
+
+pub returns-in-Ok-clause-clock : goal.returns-in-Ok-clause-clock
+returns-in-Ok-clause-clock g c = let s = c.in-Ok.ensures.step in (length s.0, s.2)
+
+pub returns-in-Err-clause-clock : goal.returns-in-Err-clause-clock
+returns-in-Err-clause-clock g c = let s = c.in-Err.ensures.step in (length s.0 + 1, s.3)

@@ -1,13 +1,16 @@
-use Rattle.std.proofs.Common.{◌∙◌, rules}
+use Rattle.std.proofs.Common.{◌≡◌, ◌∙◌, ap, false, refl, rules, true}
 use Rattle.hall.specs.declared.view.Kind.TheVariants as kinds
 use Rattle.hall.specs.Passes.{view}
-use Rattle.hall.specs.Views.{after_look}
+use Rattle.hall.specs.declared.view.View.{View}
+use Rattle.hall.specs.Views.{after_look, entry_of}
 use Rattle.shared_mutex.specs.Refused.{reader_refused}
-use Rattle.query_rules.specs.Maps.{no_entries}
 use Rattle.map_cargo.specs.Gaining.{gained_by}
 use Rattle.query_cells.proofs.Taking.{busy_reads, gained_later, reader_unchanged, turned_away, unchanged_once, unchanged_then}
 use Rattle.hall.specs.Treading.{IsWeakAt, treads_then}
 use Rattle.shared_mutex.specs.TrailLaws.{takes_shared_treads, refuses_shared_treads}
+use Rattle.sync_cell.specs.Gains.{refuses_reader}
+use Rattle.sync_cell.specs.GainLaws.{gained_last, plain_tries, reader_took}
+use Rattle.query_cells.proofs.Tries.{plain_then, raced_read, reads_more}
 use Rattle.query_cells.proofs.attempts.try_to_read.Goals as goal
 
 pub returns-in-Ok-clause-taken : goal.returns-in-Ok-clause-taken
@@ -17,7 +20,7 @@ returns-in-Ok-clause-taken g c =
       record {
         stands = e.stands;
         elsewhere = λ k ne. e.elsewhere k ne ∙ c.loop.invariant.elsewhere k ne;
-        gained = gained_later c.args.cell (view c.args.pass.now) u (view c.try_rlock.new.pass) (unchanged_then (view c.args.pass.now) v u c.loop.invariant.quiet (unchanged_once v kinds.Load c.args.cell s.1.0)) (gained_by no_entries _ _ _ _ _ _ s.1.2.0);
+        gained = gained_later c.args.cell (view c.args.pass.now) u (view c.try_rlock.new.pass) (unchanged_then (view c.args.pass.now) v u c.loop.invariant.quiet (unchanged_once v kinds.Load c.args.cell s.1.0)) (gained_by _ _ _ _ _ _ s.1.2.0);
       },
     )
 
@@ -30,6 +33,7 @@ pub returns-in-Err-Busy-clause-taken : goal.returns-in-Err-Busy-clause-taken
 returns-in-Err-Busy-clause-taken g c =
     let e = c.in-Err-Busy in let so_far = c.loop.invariant in let v = view c.args.pass.now in let u = view c.loop.pass in let w = view c.try_rlock.new.pass in
     turned_away v u w c.args.cell so_far.quiet (reader_unchanged _ u c.args.cell w e.field-0 e.ensures.step) so_far.elsewhere e.ensures.elsewhere e.ensures.stands
+    (plain_then v u w c.args.cell so_far.quiet.goes_on.number (plain_tries (λ e. refuses_reader v.shape.policy e ≡ false) v u c.args.cell so_far.tries) e.ensures.tries)
 
 pub loop-preserved : goal.loop-preserved
 loop-preserved g c =
@@ -41,6 +45,7 @@ loop-preserved g c =
       quiet = unchanged_then (view c.args.pass.now) u (view c.try_rlock.new.pass) c.loop.invariant.quiet (reader_unchanged _ u c.args.cell (view c.try_rlock.new.pass) e.field-0 e.ensures.step);
       elsewhere = search rules;
       trail = treads_then (IsWeakAt c.args.cell) (view c.args.pass.now) u (view c.try_rlock.new.pass) c.loop.invariant.trail (refuses_shared_treads _ u (view c.try_rlock.new.pass) c.args.cell e.field-0 c.loop.invariant.away e.ensures.step);
+      tries = reads_more (view c.args.pass.now) u (view c.try_rlock.new.pass) c.args.cell c.loop.invariant.quiet.goes_on.number c.loop.invariant.quiet.goes_on.shape c.loop.invariant.tries (raced_read _ u (view c.try_rlock.new.pass) c.args.cell c.loop.invariant.away e.field-0 _ _ e.field-0-is e.ensures.step);
     }
 
 pub returns-in-Ok-clause-trail : goal.returns-in-Ok-clause-trail
@@ -52,3 +57,10 @@ pub returns-in-Err-Busy-clause-trail : goal.returns-in-Err-Busy-clause-trail
 returns-in-Err-Busy-clause-trail g c =
     let e = c.in-Err-Busy in let u = view c.loop.pass in let w = view c.try_rlock.new.pass in
     treads_then (IsWeakAt c.args.cell) (view c.args.pass.now) u w c.loop.invariant.trail (refuses_shared_treads _ u w c.args.cell e.field-0 c.loop.invariant.away e.ensures.step)
+
+pub returns-in-Ok-clause-tries : goal.returns-in-Ok-clause-tries
+returns-in-Ok-clause-tries g c =
+    let so_far = c.loop.invariant in let s = c.in-Ok.ensures.step in let v = view c.args.pass.now in let u = view c.loop.pass in let z = after_look u kinds.Load c.args.cell s.1.0 in let w = view c.try_rlock.new.pass in
+    gained_last (λ e. refuses_reader v.shape.policy e ≡ false) v z w c.args.cell (entry_of z kinds.Enter c.args.cell s.1.0 true)
+    (reads_more v u w c.args.cell so_far.quiet.goes_on.number so_far.quiet.goes_on.shape so_far.tries (reader_took _ u w c.args.cell so_far.away s.1))
+    (unchanged_then v u z so_far.quiet (unchanged_once u kinds.Load c.args.cell s.1.0)).goes_on.more (ap (λ (x : View _). x.steps) s.1.2.0.3) refl refl

@@ -7,6 +7,7 @@ use Rattle.hall.specs.Passes.{view, cargo_of}
 use Rattle.query_cells.proofs.Replies.{nothing_gained, tells_after}
 use Rattle.hall.specs.Treading.{IsWeakAt, treads_none, treads_then}
 use Rattle.query_cells.proofs.Trails.{weak_here}
+use Rattle.query_cells.proofs.Tries.{busy_ungranted, read_by_tries, refused_tried, tells_more}
 use Rattle.query_cells.proofs.refusable.ask_try_get.Goals as goal
 
 pub refuse-requires-clause-may : goal.refuse-requires-clause-may
@@ -38,3 +39,15 @@ pub returns-in-None-clause-trail : goal.returns-in-None-clause-trail
 returns-in-None-clause-trail g c =
     let v = view c.args.pass.now in let u = view c.try_to_read.new.pass in let w = view c.refuse.new.pass in
     treads_then (IsWeakAt c.args.cell) v u w c.in-None.ensures.trail (treads_none (IsWeakAt c.args.cell) u w c.refuse.ensures.tells.number c.refuse.ensures.trail)
+
+pub returns-in-None-clause-refused : goal.returns-in-None-clause-refused
+returns-in-None-clause-refused g c =
+    refused_tried (view c.args.pass.now) (view c.try_to_read.new.pass) (view c.refuse.new.pass) (TryGet c.args.cell c.args.key) c.args.cell c.refuse.result refl refl c.in-None.ensures.taken c.refuse.ensures.load
+
+pub returns-in-None-clause-tries : goal.returns-in-None-clause-tries
+returns-in-None-clause-tries g c = λ granted. absurd (busy_ungranted c.refuse.result c.refuse.ensures.reply granted)
+
+pub returns-in-Some-clause-tries : goal.returns-in-Some-clause-tries
+returns-in-Some-clause-tries g c =
+    let v = view c.args.pass.now in let u = view c.try_to_read.new.pass in let w = view c.answer_value.new.pass in
+    read_by_tries v u w c.args.cell c.args.key c.answer_value.result c.in-Some.ensures.tries (tells_more (cargo_of c.args.hall.now) u w c.args.index _ c.answer_value.result c.answer_value.ensures.tells)

@@ -3,6 +3,8 @@ use Rattle.query_cells.proofs.Pairs.{words_tell_nothing}
 use Rattle.query_cells.proofs.Replies.{nothing_then, tells_after, tells_then}
 use Rattle.hall.specs.Treading.{treads_then}
 use Rattle.query_cells.specs.Answers.{IsWeakAtEither}
+use Rattle.map_cargo.specs.StepLaws.{more_then}
+use Rattle.query_cells.proofs.Tries.{looks_in_order, order_then}
 use Rattle.query_cells.proofs.Trails.{alike_treads, weak_either_here, both_treads}
 use Rattle.query_cells.proofs.two.ask_both.Goals as goal
 
@@ -20,3 +22,10 @@ returns-clause-trail g c =
     (treads_then may a u w (alike_treads may a u c.look_up_two-said.ensures.words.alike)
     (treads_then may u t w (alike_treads may u t c.tell_read-reply.ensures.pass.1)
     (weak_either_here t w held.result.0.guard.lock held.result.1.guard.lock low high held.ensures.cells.0 held.ensures.cells.1 c.leave_two_reading.ensures.trail))))
+
+pub returns-clause-order : goal.returns-clause-order
+returns-clause-order g c =
+    let v = view c.args.pass.now in let a = view c.hold_two_for_reading.new.pass in let u = view c.look_up_two-said.new.pass in let t = view c.tell_read-reply.new.pass in let w = view c.leave_two_reading.new.pass in let order = c.in_order-low.ensures in let back = c.leave_two_reading.ensures.back in
+    looks_in_order v w c.args.first c.args.second c.in_order-low.result.0 c.in_order-low.result.1 order.both order.low
+    (order_then v a w c.in_order-low.result.0 c.in_order-low.result.1 c.hold_two_for_reading.ensures.order (more_then a u w c.look_up_two-said.ensures.words.alike.steps (more_then u t w c.tell_read-reply.ensures.pass.1.steps record { added = back.added; stand = back.stand })))
+    c.args.key

@@ -5,6 +5,8 @@ use Rattle.query_cells.proofs.Pairs.{back_order, either_order, named_so, two_tol
 use Rattle.query_cells.proofs.Replies.{nothing_then, tells_after, tells_then}
 use Rattle.hall.specs.Treading.{treads_then}
 use Rattle.query_cells.specs.Answers.{IsAtEither}
+use Rattle.map_cargo.specs.StepLaws.{more_then}
+use Rattle.query_cells.proofs.Tries.{moves_in_order, order_then}
 use Rattle.query_cells.proofs.Trails.{alike_treads, stays_treads, either_here, move_treads}
 use Rattle.query_cells.proofs.two.ask_move.Goals as goal
 
@@ -29,3 +31,10 @@ returns-clause-trail g c =
     (treads_then may a u w (alike_treads may a u c.shift-said.ensures.words.alike)
     (treads_then may u t w (stays_treads may u t c.tell-reply.ensures.pass.1)
     (either_here t w held.result.0.guard.lock held.result.1.guard.lock low high held.ensures.cells.0 held.ensures.cells.1 c.leave_two_writing.ensures.trail))))
+
+pub returns-clause-order : goal.returns-clause-order
+returns-clause-order g c =
+    let v = view c.args.pass.now in let a = view c.hold_two_for_writing.new.pass in let u = view c.shift-said.new.pass in let t = view c.tell-reply.new.pass in let w = view c.leave_two_writing.new.pass in let order = c.in_order-low.ensures in let back = c.leave_two_writing.ensures.back in
+    moves_in_order v w c.args.from c.args.to c.in_order-low.result.0 c.in_order-low.result.1 order.both order.low
+    (order_then v a w c.in_order-low.result.0 c.in_order-low.result.1 c.hold_two_for_writing.ensures.order (more_then a u w c.shift-said.ensures.words.alike.steps (more_then u t w c.tell-reply.ensures.pass.1.steps record { added = back.added; stand = back.stand })))
+    c.args.key c.args.n

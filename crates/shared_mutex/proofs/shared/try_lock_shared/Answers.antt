@@ -1,4 +1,4 @@
-use Rattle.std.proofs.Common.{◌≡◌, true, sym, ap, ◌∙◌}
+use Rattle.std.proofs.Common.{◌≡◌, true, false, sym, ap, ◌∙◌}
 use Rattle.lock_model.specs.declared.model.Policy.{Policy}
 use Rattle.hall.specs.declared.view.Kind.TheVariants.{Enter}
 use Rattle.hall.specs.declared.view.Shape.{Shape}
@@ -19,8 +19,11 @@ returns-then-conflicts_for_shared-clause-step g c =
 
 pub returns-in-Err-clause-step : goal.returns-in-Err-clause-step
 returns-in-Err-clause-step g c =
-    let t = c.load-seen.ensures.step in let miss = c.in-Err.ensures.step in let look = miss.1 in (
+    let t = c.load-seen.ensures.step in let miss = c.in-Err.ensures.step in let look = miss.1 in
+    let free : conflicts_for_shared (view c.args.pass.now).shape.policy c.load-seen.result ≡ false =
+    ap (λ (z : Shape). conflicts_for_shared z.policy c.load-seen.result) c.requires.pass.1 ∙ ap (λ (p : Policy). conflicts_for_shared p c.load-seen.result) (sym c.policy.ensures) ∙ sym c.conflicts_for_shared.ensures ∙ c.if-conflicts_for_shared.false in (
       (λ same. miss.0 (sym same)),
       look.0 ∙ ap (λ (z : View _). after_look z Enter c.args.lock c.in-Err.found) t.0,
       found_changed g.C.CargoRule _ _ _ _ _ _ _ look.2 look.0 (view c.args.pass.now) c.load-seen.result t.0 (λ same. miss.0 (sym same)),
+      free,
     )

@@ -3,7 +3,6 @@ use Rattle.hall.specs.Passes.{view}
 use Rattle.hall.specs.Plays.{Releases}
 use Rattle.hall.specs.Views.{mode_of, standing}
 use Rattle.hall.specs.declared.view.Standing.TheVariants.{Away, Exclusive}
-use Rattle.query_rules.specs.Maps.{no_entries}
 use Rattle.map_cargo.specs.History.{IsSettled}
 use Rattle.sync_cell.specs.Cells.{maps}
 use Rattle.sync_cell.specs.Within.{Answers, writes_at}
@@ -26,7 +25,7 @@ unlock_write-requires-clause-exclusive g c = let taken = c.wlock-ptr.ensures in
 pub unlock_write-requires-clause-settled : goal.unlock_write-requires-clause-settled
 unlock_write-requires-clause-settled g c = let taken = c.wlock-ptr.ensures in
     let said : Answers g.F.FnOnce c.args.f c.args.hall.now c.wlock-ptr.new.pass (writes_at c.args.cell) c.f-answer.result c.f-answer.new.arg3 = record { h = _; p = _; x = _; shows = (refl, refl, ap writes_at taken.cell); left = _; met = c.f-answer.ensures; leaves = refl } in
-    subst (λ (k : ℕ). IsSettled no_entries k (view c.f-answer.new.arg3).part) (sym taken.cell) (c.requires.leaves c.wlock-ptr.new.pass c.f-answer.result c.f-answer.new.arg3 (taken.pass, taken.stands, taken.elsewhere, taken.step) said).1
+    subst (λ (k : ℕ). IsSettled k (view c.f-answer.new.arg3).part) (sym taken.cell) (c.requires.leaves c.wlock-ptr.new.pass c.f-answer.result c.f-answer.new.arg3 (taken.pass, taken.stands, taken.elsewhere, taken.step) said).1
 
 pub returns-clause-away : goal.returns-clause-away
 returns-clause-away g c = subst (λ (k : ℕ). standing (view c.unlock_write.new.pass) k ≡ Away) c.wlock-ptr.ensures.cell c.unlock_write.ensures.away

@@ -1,0 +1,168 @@
+-- Laws of the steps of tries: all were made for the lock with no mode held there, and where a try raced or won, none was one that refuses busy.
+use Rattle.std.specs.Prelude.{◌≡◌, ℕ, ◌&&◌, ◌||◌, not, Bool, true, false, List, [], ◌∷◌, ◌++◌, All, None}
+use Rattle.std.proofs.Common.{refl, sym, ap, ◌∙◌, subst, ⊎_elim, append_assoc}
+use Rattle.std.proofs.lemmas.List.{append_cancel_right}
+use Rattle.std.proofs.lemmas.List.Elements.{All-nil, All-cons}
+use Rattle.hall.specs.declared.cargo.CargoRule.{Ghosts}
+use Rattle.hall.specs.declared.guards.TryFault.{TryFault}
+use Rattle.hall.specs.declared.guards.TryFault.TheVariants.{Busy, Raced}
+use Rattle.hall.specs.declared.view.Kind.{Kind}
+use Rattle.hall.specs.declared.view.Kind.TheVariants as kinds
+use Rattle.hall.specs.declared.view.Shape.{Shape}
+use Rattle.hall.specs.declared.view.Standing.{Standing}
+use Rattle.hall.specs.declared.view.Standing.TheVariants.{Away, Announcing}
+use Rattle.hall.specs.declared.view.StepEntry.{StepEntry}
+use Rattle.hall.specs.declared.view.View.{View}
+use Rattle.hall.specs.Plays.{conflicts_for_announcing}
+use Rattle.hall.specs.Views.{after_look, after_step, entry_of, mode_of, standing}
+use Rattle.apply_deferred.specs.Sweeping.{Sweeps}
+use Rattle.apply_deferred.specs.SweepLaws.{AllSweeping, is_sweeping, same_mode, sweep_goes}
+use Rattle.shared_mutex.specs.Acquiring.{AnnouncesWriter, FoundReaders, RefusesAnnouncing, RefusesExclusive, RefusesShared, TakesExclusive, TakesShared}
+use Rattle.shared_mutex.specs.Refused.{AddsReads, MadeMore}
+use Rattle.shared_mutex.specs.Tries.{AddsSteps, IsTry}
+use Rattle.shared_mutex.specs.TryLaws.{adds_as, adds_none, adds_then}
+use Rattle.sync_cell.specs.Attempts.{is_hold, is_load}
+use Rattle.sync_cell.specs.Gains.{AnyStep, GainedBy, GainedInOrder, gains_mode, refuses_reader, refuses_writer}
+
+-- a step of a sweep refuses nobody
+sweeping_refuses_none : (k : Kind) (a b : Bool) → is_sweeping k ≡ true → ((is_load k && a) || (is_hold k && b)) ≡ false
+sweeping_refuses_none k a b e = elim k as (λ z. is_sweeping z ≡ true → ((is_load z && a) || (is_hold z && b)) ≡ false) [ kinds.Load ↦ λ h. absurd (cc) | kinds.Hold ↦ λ h. absurd (cc) | _ ↦ λ h. refl ] e
+
+module _ {P : Type 0} (such : StepEntry → Type 0) where
+  -- a step that was made for the lock with no mode held there, and is such a step
+  abbrev pub IsTrySuch : View P → ℕ → StepEntry → Type 0
+  IsTrySuch v lock e = IsTry v lock e × such e
+
+  -- the pass only tried so far, and holds no mode at the lock
+  record OnlyTries (v w : View P) (lock : ℕ) : Type 0 where
+    pub number : w.number ≡ v.number
+    pub free : mode_of (standing w lock) ≡ None
+    pub steps : AddsSteps (IsTrySuch v lock) v w
+
+  tries_none : (v : View P) (lock : ℕ) → standing v lock ≡ Away → OnlyTries v v lock
+  tries_none v lock away = record { number = refl; free = ap mode_of away; steps = adds_none (IsTrySuch v lock) v v refl }
+
+  -- one step more
+  step_more : (v u w : View P) (kind : Kind) (lock word : ℕ) (won : Bool) (y : Standing) (part : P) → OnlyTries v u lock → such (entry_of u kind lock word won) → w ≡ after_step u kind lock word won y part → AddsSteps (IsTrySuch v lock) v w
+  step_more v u w kind lock word won y part t so is =
+      let e : StepEntry = entry_of u kind lock word won in
+      adds_then (IsTrySuch v lock) v u w t.steps (e ∷ [], ap (λ (z : View P). z.steps) is, All-cons (IsTrySuch v lock) e [] ((t.number, refl, t.free), so) (All-nil (IsTrySuch v lock)))
+
+  -- and it leaves a standing without a mode
+  tries_more : (v u w : View P) (kind : Kind) (lock word : ℕ) (won : Bool) (y : Standing) (part : P) → OnlyTries v u lock → such (entry_of u kind lock word won) → mode_of y ≡ None → w ≡ after_step u kind lock word won y part → OnlyTries v w lock
+  tries_more v u w kind lock word won y part t so free is = record {
+    number = ap (λ (z : View P). z.number) is ∙ t.number;
+    free = ap (λ (z : View P). mode_of (standing z lock)) is ∙ same_mode u.standings lock y (free ∙ sym t.free) ∙ t.free;
+    steps = step_more v u w kind lock word won y part t so is;
+  }
+
+  -- a look
+  tries_look : (v u : View P) (kind : Kind) (lock word : ℕ) → OnlyTries v u lock → such (entry_of u kind lock word false) → OnlyTries v (after_look u kind lock word) lock
+  tries_look v u kind lock word t so = tries_more v u (after_look u kind lock word) kind lock word false (standing u lock) u.part t so t.free refl
+
+module _ {P : Type 0} where
+  -- tries of one kind are tries
+  pub plain_tries : (such : StepEntry → Type 0) (v w : View P) (lock : ℕ) → AddsSteps (IsTrySuch such v lock) v w → AddsSteps (IsTry v lock) v w
+  plain_tries such v w lock a = adds_as (IsTrySuch such v lock) (IsTry v lock) v w (λ e p. p.0) a
+
+  pub any_tries : (v w : View P) (lock : ℕ) → AddsSteps (IsTry v lock) v w → AddsSteps (IsTrySuch AnyStep v lock) v w
+  any_tries v w lock a = adds_as (IsTry v lock) (IsTrySuch AnyStep v lock) v w (λ e p. (p, tt)) a
+
+  -- tries of a pass that had made others before
+  pub tries_then : (such : StepEntry → Type 0) (v u w : View P) (lock : ℕ) → u.number ≡ v.number → AddsSteps (IsTrySuch such v lock) v u → AddsSteps (IsTrySuch such u lock) u w → AddsSteps (IsTrySuch such v lock) v w
+  tries_then such v u w lock number a b = adds_then (IsTrySuch such v lock) v u w a (adds_as (IsTrySuch such u lock) (IsTrySuch such v lock) u w (λ e p. ((p.0.0 ∙ number, p.0.1, p.0.2), p.1)) b)
+
+  -- a call that only tried until its newest step, which won
+  all_added : (is : StepEntry → Type 0) (v w : View P) (added : List StepEntry) → AddsSteps is v w → w.steps ≡ added ++ v.steps → All is added
+  all_added is v w added a stand = subst (λ (l : List StepEntry). All is l) (append_cancel_right a.0 added v.steps (sym a.1 ∙ stand)) a.2
+
+  pub gained_last : (such : StepEntry → Type 0) (v z w : View P) (lock : ℕ) (gain : StepEntry) → AddsSteps (IsTrySuch such v lock) v w → MadeMore v z → w.steps ≡ gain ∷ z.steps → gain.won ≡ true → gains_mode gain.kind ≡ true → AddsReads (λ shape number added. GainedBy such lock number added) v w
+  gained_last such v z w lock gain adds more last won kind =
+      let stand : w.steps ≡ (gain ∷ more.0) ++ v.steps = last ∙ ap (λ (l : List StepEntry). gain ∷ l) more.1 in
+      (gain ∷ more.0, stand, record { later = []; gain = gain; earlier = more.0; stand = refl; tries = all_added (IsTrySuch such v lock) v w (gain ∷ more.0) adds stand; gains = (won, kind) })
+
+  -- one lock was gained, and then another
+  pub gained_in_order : (v u w : View P) (low high : ℕ) → u.number ≡ v.number → AddsReads (λ shape number added. GainedBy AnyStep low number added) v u → AddsReads (λ shape number added. GainedBy AnyStep high number added) u w → AddsReads (λ shape number added. GainedInOrder low high number added) v w
+  gained_in_order v u w low high number a b = (
+    b.0 ++ a.0,
+    b.1 ∙ ap (λ (l : List StepEntry). b.0 ++ l) a.1 ∙ sym (append_assoc b.0 a.0 v.steps),
+    record { later = b.0; earlier = a.0; stand = refl; first = a.2; second = subst (λ (n : ℕ). GainedBy AnyStep high n b.0) number b.2 },
+  )
+
+-- what was gained stays so where steps are added
+pub still_gained : (such : StepEntry → Type 0) (lock number : ℕ) (added steps : List StepEntry) → GainedBy such lock number steps → GainedBy such lock number (added ++ steps)
+still_gained such lock number added steps g = record {
+  later = added ++ g.later;
+  gain = g.gain;
+  earlier = g.earlier;
+  stand = ap (λ (l : List StepEntry). added ++ l) g.stand ∙ sym (append_assoc added g.later (g.gain ∷ g.earlier));
+  tries = g.tries;
+  gains = g.gains;
+}
+
+pub still_in_order : (low high number : ℕ) (added steps : List StepEntry) → GainedInOrder low high number steps → GainedInOrder low high number (added ++ steps)
+still_in_order low high number added steps g = record {
+  later = added ++ g.later;
+  earlier = g.earlier;
+  stand = ap (λ (l : List StepEntry). added ++ l) g.stand ∙ sym (append_assoc added g.later g.earlier);
+  first = g.first;
+  second = still_gained AnyStep high number added g.later g.second;
+}
+
+-- ---- readers
+module _ {C P : Type 0} (g : Ghosts C P) (v w : View P) (lock : ℕ) (away : standing v lock ≡ Away) where
+  pub reader_took : TakesShared g v lock w → AddsSteps (IsTrySuch (λ e. refuses_reader v.shape.policy e ≡ false) v lock) v w
+  reader_took t =
+      let Free : StepEntry → Type 0 = λ e. refuses_reader v.shape.policy e ≡ false in
+      step_more Free v (after_look v kinds.Load lock t.0) w kinds.Enter lock t.0 true _ _ (tries_look Free v v kinds.Load lock t.0 (tries_none Free v lock away) t.1) refl t.2.0.3
+
+  pub reader_raced : (expected found : ℕ) → RefusesShared g v lock w (Raced expected found) → AddsSteps (IsTrySuch (λ e. refuses_reader v.shape.policy e ≡ false) v lock) v w
+  reader_raced expected found r =
+      let Free : StepEntry → Type 0 = λ e. refuses_reader v.shape.policy e ≡ false in let look : View P = after_look v kinds.Load lock expected in
+      step_more Free v look w kinds.Enter lock found false (standing look lock) look.part (tries_look Free v v kinds.Load lock expected (tries_none Free v lock away) r.3) refl r.1
+
+  pub reader_tried : (f : TryFault) → RefusesShared g v lock w f → AddsSteps (IsTry v lock) v w
+  reader_tried (Busy word) r = plain_tries AnyStep v w lock (step_more AnyStep v v w kinds.Load lock word false (standing v lock) v.part (tries_none AnyStep v lock away) tt r.1)
+  reader_tried (Raced expected found) r = plain_tries (λ e. refuses_reader v.shape.policy e ≡ false) v w lock (reader_raced expected found r)
+
+-- ---- writers
+module _ {C P : Type 0} (g : Ghosts C P) (such : StepEntry → Type 0) (v : View P) (lock : ℕ) (away : standing v lock ≡ Away) (sweeping : (e : StepEntry) → is_sweeping e.kind ≡ true → such e) where
+  all_such : (number lock : ℕ) (es : List StepEntry) → number ≡ v.number → AllSweeping number lock None es → All (IsTrySuch such v lock) es
+  all_such number lock [] same h = All-nil (IsTrySuch such v lock)
+  all_such number lock (e ∷ es) same h = All-cons (IsTrySuch such v lock) e es ((h.0 ∙ same, h.1, h.3), sweeping e h.2) (all_such number lock es same h.4)
+
+  -- a writer was announced, and swept
+  announced_tries : (u z : View P) (slots taken : ℕ) (a : AnnouncesWriter g v lock u) → such (entry_of v kinds.Load lock a.0 false) → such (entry_of (after_look v kinds.Load lock a.0) kinds.Announce lock a.0 true) → Sweeps g lock slots taken u z → OnlyTries such v z lock
+  announced_tries u z slots taken a so_load so_announce sweeps =
+      let look : View P = after_look v kinds.Load lock a.0 in
+      let t : OnlyTries such v u lock = tries_more such v look u kinds.Announce lock a.0 true (Announcing 0 0 false) look.part (tries_look such v v kinds.Load lock a.0 (tries_none such v lock away) so_load) so_announce refl a.2.0 in
+      let s = sweep_goes g lock slots taken u z sweeps in record {
+        number = s.number ∙ t.number;
+        free = s.mode ∙ t.free;
+        steps = adds_then (IsTrySuch such v lock) v u z t.steps (s.added, s.steps, all_such u.number lock s.added t.number (subst (λ m. AllSweeping u.number lock m s.added) t.free s.sweeping));
+      }
+
+module _ {C P : Type 0} (g : Ghosts C P) (v w : View P) (lock : ℕ) (away : standing v lock ≡ Away) where
+  pub writer_took : TakesExclusive g v lock w → AddsSteps (IsTrySuch (λ e. refuses_writer e ≡ false) v lock) v w
+  writer_took t =
+      let Free : StepEntry → Type 0 = λ e. refuses_writer e ≡ false in let z : View P = t.2 in
+      let tried = announced_tries g Free v lock away (λ e is. sweeping_refuses_none e.kind (conflicts_for_announcing e.word) (not e.won) is) t.0 z v.shape.slots t.3 t.1 (ap (λ (b : Bool). b || false) t.1.1) refl t.4 in
+      step_more Free v z w kinds.Hold lock 4 true _ _ tried refl t.5.0.3
+
+  pub writer_raced : (expected found : ℕ) → RefusesExclusive g v lock w (Raced expected found) → AddsSteps (IsTrySuch (λ e. refuses_writer e ≡ false) v lock) v w
+  writer_raced expected found r =
+      let Free : StepEntry → Type 0 = λ e. refuses_writer e ≡ false in let look : View P = after_look v kinds.Load lock expected in
+      step_more Free v look w kinds.Announce lock found false (standing look lock) look.part (tries_look Free v v kinds.Load lock expected (tries_none Free v lock away) (ap (λ (b : Bool). b || false) r.3)) refl r.1
+
+  found_readers_tried : (word : ℕ) → FoundReaders g v lock w word → AddsSteps (IsTry v lock) v w
+  found_readers_tried word f =
+      let z : View P = f.2 in let look : View P = after_look z kinds.Hold lock word in
+      let tried = announced_tries g AnyStep v lock away (λ e is. tt) f.0 z v.shape.slots f.3 f.1 tt tt f.4 in
+      plain_tries AnyStep v w lock (step_more AnyStep v look w kinds.Retract lock f.7.0 true Away z.part (tries_look AnyStep v z kinds.Hold lock word tried tt) tt f.7.1)
+
+  pub writer_tried : (f : TryFault) → RefusesExclusive g v lock w f → AddsSteps (IsTry v lock) v w
+  writer_tried (Busy word) r = ⊎_elim
+      (λ t. plain_tries AnyStep v w lock (step_more AnyStep v v w kinds.Load lock word false (standing v lock) v.part (tries_none AnyStep v lock away) tt t.1))
+      (λ t. found_readers_tried word t)
+      r
+  writer_tried (Raced expected found) r = plain_tries (λ e. refuses_writer e ≡ false) v w lock (writer_raced expected found r)

@@ -1,0 +1,45 @@
+-- By which of its steps a call gained a lock, and how it came to it.
+use Rattle.std.specs.Prelude.{◌≡◌, ℕ, ◌&&◌, ◌||◌, not, Bool, true, false, List, ◌∷◌, ◌++◌, All, None}
+use Rattle.lock_model.specs.declared.model.Policy.{Policy}
+use Rattle.hall.specs.declared.view.Kind.{Kind}
+use Rattle.hall.specs.declared.view.Kind.TheVariants as kinds
+use Rattle.hall.specs.declared.view.StepEntry.{StepEntry}
+use Rattle.hall.specs.Plays.{conflicts_for_announcing, conflicts_for_shared}
+use Rattle.hall.specs.Views.{mode_of}
+use Rattle.sync_cell.specs.Attempts.{is_hold, is_load}
+
+-- the kinds of step by which a pass that held no mode at a lock gains one there
+abbrev pub gains_mode : Kind → Bool
+gains_mode kinds.Enter = true
+gains_mode kinds.UpgradeIn = true
+gains_mode kinds.Hold = true
+gains_mode kind = false
+
+-- a step for which a reader's try is refused busy: a load that found a word that lets no reader in
+abbrev pub refuses_reader : Policy → StepEntry → Bool
+refuses_reader policy e = is_load e.kind && conflicts_for_shared policy e.word
+
+-- a step for which a writer's try is refused busy: a load that found a word that lets no writer be announced, or an exchange of an announced writer that found readers counted
+abbrev pub refuses_writer : StepEntry → Bool
+refuses_writer e = (is_load e.kind && conflicts_for_announcing e.word) || (is_hold e.kind && not e.won)
+
+-- Of these steps of a pass of this number, the newest first, one gained a mode at a lock. All up to it were made for the lock, with no mode held there, and are such steps
+pub record GainedBy (such : StepEntry → Type 0) (lock number : ℕ) (steps : List StepEntry) : Type 0 where
+  pub later : List StepEntry
+  pub gain : StepEntry
+  pub earlier : List StepEntry
+  pub stand : steps ≡ later ++ (gain ∷ earlier)
+  pub tries : All (λ (e : StepEntry). ((e.number ≡ number) × (e.lock ≡ lock) × (mode_of e.before ≡ None)) × such e) (gain ∷ earlier)
+  pub gains : (gain.won ≡ true) × (gains_mode gain.kind ≡ true)
+
+-- any step
+abbrev pub AnyStep : StepEntry → Type 0
+AnyStep e = Unit {0}
+
+-- One lock was gained before another was tried for: the earlier of these steps gained the low one, and the later ones then the high one
+pub record GainedInOrder (low high number : ℕ) (steps : List StepEntry) : Type 0 where
+  pub later : List StepEntry
+  pub earlier : List StepEntry
+  pub stand : steps ≡ later ++ earlier
+  pub first : GainedBy AnyStep low number earlier
+  pub second : GainedBy AnyStep high number later
