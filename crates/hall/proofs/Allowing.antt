@@ -1,5 +1,5 @@
 -- The steps of the table that make the events.
-use Rattle.std.proofs.Common.{◌≡◌, ℕ, ◌+◌, ◌-◌, ◌%◌, ◌^◌, ◌<◌, ◌⊎◌, Bool, true, false, eqb, None, map, drop, get_or, set, sym, refl, ap, ◌∙◌, subst, length-set}
+use Rattle.std.proofs.Common.{◌≡◌, ℕ, ◌+◌, ◌-◌, ◌%◌, ◌^◌, ◌<◌, ◌⊎◌, List, Bool, true, false, eqb, None, map, drop, get_or, set, sym, refl, ap, ◌∙◌, subst, length-set}
 use mathlib.Core.Option.{none}
 use prog.Atomic.{either}
 use Rattle.std.specs.Prelude.{bit_xor}
@@ -37,12 +37,12 @@ module _ {C P : Type 0} (g : Ghosts C P) (plan : Plan C) (n id : ℕ) (me : Me (
       subst F (sym is) (λ s h wide at fits. let t = looks_at g plan s h id lock me.0 at lives shape near kinds.Load refl fits (λ e. absurd (cc)) in let w : View P = after_look me.0 kinds.Load lock (get_or s.words place 0) in
       (w, keeps, tt, t.0, (same w kinds.Load (get_or s.words place 0) false (standing me.0 lock) me.0.part refl, told (Loads g) (get_or s.words place 0) w t.1)))
 
-  pub loads_noted : (becomes : ℕ → P → P → Type 0) → NotesAside (g.holds plan.cargo) id (cargo_seat me.0) becomes → Allows (Holds g plan) n id me i (λ x. x) (At (LoadsNoted g becomes) (step n i 0 0 none) me)
+  pub loads_noted : (becomes : List ℕ → ℕ → P → P → Type 0) → NotesAside (g.holds plan.cargo) id (cargo_seat me.0) becomes → Allows (Holds g plan) n id me i (λ x. x) (At (LoadsNoted g becomes) (step n i 0 0 none) me)
   loads_noted becomes note = let F : ℕ → Type 0 = λ i. Allows (Holds g plan) n id me i (λ x. x) (At (LoadsNoted g becomes) (step n i 0 0 none) me) in
       subst F (sym is) (λ s h wide at fits. let x : ℕ = get_or s.words place 0 in
       let learnt = note (drop (plan.shape.slots + plan.shape.locks) s.words) (map cargo_seat s.views) h.cargo (all_apart plan.shape s.words s.views h.formed h.lawful) (at_map cargo_seat s.views id me.0 at) x fits in let part : P = learnt.0 in
-      let t = looks_noted g plan s h id lock me.0 at lives shape near fits part learnt.2 in let w : View P = after_step me.0 kinds.Load lock x false (standing me.0 lock) part in let told_all = t.1 in
-      (w, keeps, tt, t.0, (same w kinds.Load x false (standing me.0 lock) part refl, told (LoadsNoted g becomes) x w (part, learnt.1, refl, told_all.1, told_all.2))))
+      let t = looks_noted g plan s h id lock me.0 at lives shape near fits part learnt.2 in let w : View P = after_step me.0 kinds.Load lock x false (standing me.0 lock) part in let told_all = t.1 in let ws = drop (plan.shape.slots + plan.shape.locks) s.words in
+      (w, keeps, tt, t.0, (same w kinds.Load x false (standing me.0 lock) part refl, told (LoadsNoted g becomes) x w (ws, part, learnt.1, refl, told_all.1, told_all.2, told_all.3))))
 
   pub enters : (seen new : ℕ) → standing me.0 lock ≡ Away → conflicts_for_shared plan.shape.policy seen ≡ false → new ≡ enter_of seen → Allows (Holds g plan) n id me i (λ x. either (eqb x seen) new x) (TriedAt (Enters g) (EnterMisses g) (step n i seen new none) me)
   enters seen new away may turns = let F : ℕ → Type 0 = λ i. Allows (Holds g plan) n id me i (λ x. either (eqb x seen) new x) (TriedAt (Enters g) (EnterMisses g) (step n i seen new none) me) in

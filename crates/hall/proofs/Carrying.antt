@@ -1,9 +1,9 @@
 -- The steps on the cargo's words keep the rule.
-use Rattle.std.proofs.Common.{◌≡◌, ℕ, ◌+◌, ◌%◌, ◌^◌, ◌<◌, ◌≤◌, ◌⊎◌, inl, inr, ⊎_elim, map, set, get_or, drop, Bool, true, false, cond, eqb, eq-eqb, ne_eqb, sym, refl, ap, ◌∙◌, subst, arith, length-set, length-drop, get_or-drop, get_or-set_other, Option, Some, None}
+use Rattle.std.proofs.Common.{◌≡◌, ℕ, ◌+◌, ◌%◌, ◌^◌, ◌<◌, ◌≤◌, ◌⊎◌, inl, inr, ⊎_elim, List, map, set, get_or, drop, Bool, true, false, cond, eqb, eq-eqb, ne_eqb, sym, refl, ap, ◌∙◌, subst, arith, length-set, length-drop, get_or-drop, get_or-set_other, Option, Some, None}
 use Rattle.std.proofs.lemmas.List.{map-set, drop-set-add}
-use mathlib.Core.Option.{some}
+use mathlib.Core.Option.{none, some}
 use lib.ListN.{get_elem?}
-use Rattle.atomic_table.specs.Table.{State, Me, keeps, Allows}
+use Rattle.atomic_table.specs.Table.{State, Me, step, keeps, Allows}
 use Rattle.atomic_table.proofs.Lists.{at_set, at_map}
 use Rattle.hall.specs.declared.cargo.CargoRule.{Ghosts}
 use Rattle.hall.specs.declared.view.View.{View}
@@ -12,13 +12,16 @@ use Rattle.hall.specs.declared.view.Kind.{Kind}
 use Rattle.hall.specs.declared.view.Kind.TheVariants.{LoadCargo, StoreCargo, AddCargo}
 use Rattle.hall.specs.Cargo.{Apart, Notes, noted_seat}
 use Rattle.hall.specs.Locks.{Lawful, cover, counts, named_by}
-use Rattle.hall.specs.Views.{footprint, is_away, is_strong, standing, after_note}
+use Rattle.hall.specs.Views.{footprint, is_away, is_strong, standing, after_note, cargo_place_of}
 use Rattle.lock_model.specs.Locks.{Has}
 use Rattle.hall.specs.Numbers.{owns}
 use Rattle.hall.specs.Trails.{is_join, last_read, Heads, Reasoned, Others, StrongOthers}
 use Rattle.hall.proofs.Racing.{reasoned_more}
 use Rattle.hall.specs.declared.view.StepEntry.{StepEntry}
-use Rattle.hall.specs.Plays.{MakesNote, StoresNote}
+use Rattle.hall.specs.Plays.{OnCargo, LoadsWord, StoresWord, AddsToWord}
+use Rattle.hall.specs.Moves.{CargoMoment}
+use Rattle.hall.specs.ShownLaws.{shown_same}
+use Rattle.hall.specs.declared.view.Shape.{Shape}
 use Rattle.hall.specs.Rule.{Holds, Formed, cargo_seat}
 use Rattle.hall.specs.NumberLaws.{numbered_same}
 use Rattle.hall.proofs.Locking.{counts_same, named_same, swept_same}
@@ -101,47 +104,74 @@ module _ {C P : Type 0} (g : Ghosts C P) (plan : Plan C) (s : State (Unit {0}) (
     cargo = subst (λ ws. g.holds plan.cargo ws (map cargo_seat (set s.views id after))) (sym (drop-set-add base s.words k n)) (subst (g.holds plan.cargo (set (drop base s.words) k n)) (sym (map-set cargo_seat s.views id after)) loads);
   }
 
-module _ {C P : Type 0} (g : Ghosts C P) (plan : Plan C) (n id : ℕ) (me : Me (Unit {0}) (View P)) (k i : ℕ) (is : i ≡ plan.shape.slots + plan.shape.locks + k) (lives : 0 < me.0.span) (inside : k < plan.shape.words) (becomes : ℕ → P → P → Type 0) where
+  -- the moment of the step
+  pub moment : (shape : v.shape ≡ plan.shape) → Holds g plan record { words = set s.words (base + k) n; homes = s.homes; views = set s.views id after } → CargoMoment g v after k (get_or s.words (base + k) 0) n (drop base s.words)
+  moment shape kept = record {
+    plan = plan;
+    state = s;
+    id = id;
+    shape = sym shape;
+    near = inside;
+    mine = at;
+    words = refl;
+    finds = get_or-drop base s.words k 0;
+    before = h;
+    after = kept;
+    apart = λ j low. get_or-set_other s.words (base + k) j n 0 (λ e. omega arith);
+    still = λ lock. shown_same s.views id lock v after at refl refl refl;
+  }
+
+  -- the view after it, by the pass's own shape
+  pub placed : v.shape ≡ plan.shape → after ≡ after_note v kind (cargo_place_of v k) word won used part
+  placed shape = ap (λ (z : Shape). after_note v kind (z.slots + z.locks + k) word won used part) (sym shape)
+
+module _ {C P : Type 0} (g : Ghosts C P) (plan : Plan C) (n id : ℕ) (me : Me (Unit {0}) (View P)) (k i : ℕ) (is : i ≡ plan.shape.slots + plan.shape.locks + k) (shape : me.0.shape ≡ plan.shape) (lives : 0 < me.0.span) (inside : k < plan.shape.words) (becomes : List ℕ → ℕ → P → P → Type 0) where
   abbrev base' : ℕ
   base' = plan.shape.slots + plan.shape.locks
 
   read : (s : State (Unit {0}) (View P)) → get_or (drop base' s.words) k 0 ≡ get_or s.words (base' + k) 0
   read s = get_or-drop base' s.words k 0
 
-  pub loads : Notes (g.holds plan.cargo) id (cargo_seat me.0) 0 k (λ x. x) becomes → Allows (Holds g plan) n id me i (λ x. x) (λ r m. MakesNote becomes LoadCargo false 0 i me r m)
+  here : base' + k ≡ cargo_place_of me.0 k
+  here = ap (λ (z : Shape). z.slots + z.locks + k) (sym shape)
+
+  pub loads : Notes (g.holds plan.cargo) id (cargo_seat me.0) 0 k (λ x. x) becomes → Allows (Holds g plan) n id me i (λ x. x) (OnCargo (LoadsWord g becomes) (step n i 0 0 none) me)
   loads note =
-      let F : ℕ → Type 0 = λ i. Allows (Holds g plan) n id me i (λ x. x) (λ r m. MakesNote becomes LoadCargo false 0 i me r m) in
-      subst F (sym is) (λ s h wide at fits. let v : View P = me.0 in let x : ℕ = get_or s.words (base' + k) 0 in
-      let t = note (drop base' s.words) (map cargo_seat s.views) h.cargo (apart g plan s h id k x v LoadCargo x 0 false v.part at lives inside refl) (at_map cargo_seat s.views id v at) (omega (arith, length-drop base' s.words, h.size)) (subst (λ (z : ℕ). z < 18446744073709551616) (sym (read s)) fits) in (
+      let F : ℕ → Type 0 = λ i. Allows (Holds g plan) n id me i (λ x. x) (OnCargo (LoadsWord g becomes) (step n i 0 0 none) me) in
+      subst F (sym is) (λ s h wide at fits. let v : View P = me.0 in let x : ℕ = get_or s.words (base' + k) 0 in let ws : List ℕ = drop base' s.words in
+      let t = note ws (map cargo_seat s.views) h.cargo (apart g plan s h id k x v LoadCargo x 0 false v.part at lives inside refl) (at_map cargo_seat s.views id v at) (omega (arith, length-drop base' s.words, h.size)) (subst (λ (z : ℕ). z < 18446744073709551616) (sym (read s)) fits) in
+      let kept = carried g plan s h id k x v LoadCargo x 0 false t.0 at lives inside refl
+      (subst (λ (z : ℕ). g.holds plan.cargo (set ws k z) (set (map cargo_seat s.views) id (noted_seat (cargo_seat v) 0 t.0))) (read s) t.2) in (
         after_note v LoadCargo (base' + k) x false 0 t.0,
         keeps,
         tt,
-        carried g plan s h id k x v LoadCargo x 0 false t.0 at lives inside refl
-            (subst (λ (z : ℕ). g.holds plan.cargo (set (drop base' s.words) k z) (set (map cargo_seat s.views) id (noted_seat (cargo_seat v) 0 t.0))) (read s) t.2),
-        (refl, (t.0, subst (λ (z : ℕ). becomes z v.part t.0) (read s) t.1, refl)),
+        kept,
+        (refl, (k, here, (ws, t.0, subst (λ (z : ℕ). becomes ws z v.part t.0) (read s) t.1, placed g plan s h id k x v LoadCargo x 0 false t.0 at lives inside refl shape, moment g plan s h id k x v LoadCargo x 0 false t.0 at lives inside refl shape kept))),
       ))
 
-  pub stores : (value : ℕ) → Notes (g.holds plan.cargo) id (cargo_seat me.0) 0 k (λ _. value) becomes → Allows (Holds g plan) n id me i (λ _. value) (λ _ m. StoresNote becomes StoreCargo i me value m)
+  pub stores : (value : ℕ) → Notes (g.holds plan.cargo) id (cargo_seat me.0) 0 k (λ _. value) becomes → Allows (Holds g plan) n id me i (λ _. value) (λ _. OnCargo (StoresWord g becomes) (step n i value 0 none) me value)
   stores value note =
-      let F : ℕ → Type 0 = λ i. Allows (Holds g plan) n id me i (λ _. value) (λ _ m. StoresNote becomes StoreCargo i me value m) in
-      subst F (sym is) (λ s h wide at fits. let v : View P = me.0 in let x : ℕ = get_or s.words (base' + k) 0 in
-      let t = note (drop base' s.words) (map cargo_seat s.views) h.cargo (apart g plan s h id k x v LoadCargo x 0 false v.part at lives inside refl) (at_map cargo_seat s.views id v at) (omega (arith, length-drop base' s.words, h.size)) (subst (λ (z : ℕ). z < 18446744073709551616) (sym (read s)) fits) in (
+      let F : ℕ → Type 0 = λ i. Allows (Holds g plan) n id me i (λ _. value) (λ _. OnCargo (StoresWord g becomes) (step n i value 0 none) me value) in
+      subst F (sym is) (λ s h wide at fits. let v : View P = me.0 in let x : ℕ = get_or s.words (base' + k) 0 in let ws : List ℕ = drop base' s.words in
+      let t = note ws (map cargo_seat s.views) h.cargo (apart g plan s h id k x v LoadCargo x 0 false v.part at lives inside refl) (at_map cargo_seat s.views id v at) (omega (arith, length-drop base' s.words, h.size)) (subst (λ (z : ℕ). z < 18446744073709551616) (sym (read s)) fits) in
+      let kept = carried g plan s h id k value v StoreCargo value 0 true t.0 at lives inside refl t.2 in (
         after_note v StoreCargo (base' + k) value true 0 t.0,
         keeps,
         tt,
-        carried g plan s h id k value v StoreCargo value 0 true t.0 at lives inside refl t.2,
-        (refl, (get_or s.words (base' + k) 0, t.0, subst (λ (z : ℕ). becomes z v.part t.0) (read s) t.1, refl)),
+        kept,
+        (refl, (k, here, (x, ws, t.0, subst (λ (z : ℕ). becomes ws z v.part t.0) (read s) t.1, placed g plan s h id k value v StoreCargo value 0 true t.0 at lives inside refl shape, moment g plan s h id k value v StoreCargo value 0 true t.0 at lives inside refl shape kept))),
       ))
 
-  pub adds : (k' : ℕ) → k' ≤ me.0.quota → Notes (g.holds plan.cargo) id (cargo_seat me.0) k' k (λ x. (x + k') % 2 ^ 64) becomes → Allows (Holds g plan) n id me i (λ x. (x + k') % 2 ^ 64) (λ r m. MakesNote becomes AddCargo true k' i me r m)
+  pub adds : (k' : ℕ) → k' ≤ me.0.quota → Notes (g.holds plan.cargo) id (cargo_seat me.0) k' k (λ x. (x + k') % 2 ^ 64) becomes → Allows (Holds g plan) n id me i (λ x. (x + k') % 2 ^ 64) (OnCargo (AddsToWord g becomes k') (step n i k' 0 none) me)
   adds k' enough note =
-      let F : ℕ → Type 0 = λ i. Allows (Holds g plan) n id me i (λ x. (x + k') % 2 ^ 64) (λ r m. MakesNote becomes AddCargo true k' i me r m) in
-      subst F (sym is) (λ s h wide at fits. let v : View P = me.0 in let x : ℕ = get_or s.words (base' + k) 0 in
-      let t = note (drop base' s.words) (map cargo_seat s.views) h.cargo (apart g plan s h id k x v LoadCargo x 0 false v.part at lives inside refl) (at_map cargo_seat s.views id v at) (omega (arith, length-drop base' s.words, h.size)) (subst (λ (z : ℕ). z < 18446744073709551616) (sym (read s)) fits) in (
+      let F : ℕ → Type 0 = λ i. Allows (Holds g plan) n id me i (λ x. (x + k') % 2 ^ 64) (OnCargo (AddsToWord g becomes k') (step n i k' 0 none) me) in
+      subst F (sym is) (λ s h wide at fits. let v : View P = me.0 in let x : ℕ = get_or s.words (base' + k) 0 in let ws : List ℕ = drop base' s.words in
+      let t = note ws (map cargo_seat s.views) h.cargo (apart g plan s h id k x v LoadCargo x 0 false v.part at lives inside refl) (at_map cargo_seat s.views id v at) (omega (arith, length-drop base' s.words, h.size)) (subst (λ (z : ℕ). z < 18446744073709551616) (sym (read s)) fits) in
+      let kept = carried g plan s h id k ((x + k') % 2 ^ 64) v AddCargo x k' true t.0 at lives inside refl
+      (subst (λ (z : ℕ). g.holds plan.cargo (set ws k ((z + k') % 2 ^ 64)) (set (map cargo_seat s.views) id (noted_seat (cargo_seat v) k' t.0))) (read s) t.2) in (
         after_note v AddCargo (base' + k) x true k' t.0,
         keeps,
         tt,
-        carried g plan s h id k ((x + k') % 2 ^ 64) v AddCargo x k' true t.0 at lives inside refl
-            (subst (λ (z : ℕ). g.holds plan.cargo (set (drop base' s.words) k ((z + k') % 2 ^ 64)) (set (map cargo_seat s.views) id (noted_seat (cargo_seat v) k' t.0))) (read s) t.2),
-        (refl, (t.0, subst (λ (z : ℕ). becomes z v.part t.0) (read s) t.1, refl)),
+        kept,
+        (refl, (k, here, (ws, t.0, subst (λ (z : ℕ). becomes ws z v.part t.0) (read s) t.1, placed g plan s h id k ((x + k') % 2 ^ 64) v AddCargo x k' true t.0 at lives inside refl shape, moment g plan s h id k ((x + k') % 2 ^ 64) v AddCargo x k' true t.0 at lives inside refl shape kept))),
       ))

@@ -32,7 +32,7 @@ use Rattle.view_sums.specs.Sums.{total, term_le, total-plus}
 use Rattle.hall.specs.Locks.{Tally, weight, Lawful, cover, count, counts, named_by}
 use Rattle.hall.specs.Views.{pending, is_away, mode_of, standing, after_step, after_look}
 use Rattle.hall.specs.Trails.{is_join, Others}
-use Rattle.hall.specs.Moves.{role_of, lock_shown, after_act, Moment}
+use Rattle.hall.specs.Moves.{role_of, lock_shown, after_act, Moment, cargo_words}
 use Rattle.hall.specs.Plays.{conflicts_for_shared, conflicts_for_announcing, Looks, Enters, GivesBack, lowered_part, lowered_act, Announces, Holding, HoldMisses, Retracts, Releases}
 use Rattle.hall.specs.Rule.{Holds, Formed}
 use Rattle.hall.specs.NumberLaws.{numbers_differ}
@@ -176,7 +176,8 @@ module _ {C P : Type 0} (g : Ghosts C P) (plan : Plan C) (s : State (Unit {0}) (
 
   -- the same with another part
   pub looks_noted : word < 18446744073709551616 → (part : P) → g.holds plan.cargo (drop (plan.shape.slots + plan.shape.locks) s.words) (set (map cargo_seat s.views) id (learnt_seat (cargo_seat v) part))
-      → let w = after_step v kinds.Load lock word false (standing v lock) part in Kept word w × ((w ≡ w) × (units_of word ≢ 2147483647) × Moment g v w lock word word None)
+      → let w = after_step v kinds.Load lock word false (standing v lock) part in Kept word w × ((w ≡ w) × (units_of word ≢ 2147483647) × (m : Moment g v w lock word word None) × (cargo_words g m.plan m.state ≡ drop (plan.shape.slots + plan.shape.locks) s.words))
+  unfolding moment
   looks_noted fits part loads =
       let w : View P = after_step v kinds.Load lock word false (standing v lock) part in
       let same : standing w lock ≡ standing v lock = stands kinds.Load word false (standing v lock) part in
@@ -189,7 +190,7 @@ module _ {C P : Type 0} (g : Ghosts C P) (plan : Plan C) (s : State (Unit {0}) (
       ((h.formed id v at).seated lock)
       (subst (λ (l : List Standing). total pending l ≤ 1) (sym (set-get_or v.standings lock Away)) (h.formed id v at).one_pending)
       (subst (g.holds plan.cargo (drop (plan.shape.slots + plan.shape.locks) s.words)) (sym seats) loads) in
-      (kept', (refl, roomy g plan s h lock near fits, moment w word None kept' (stays kinds.Load word false (standing v lock) part) refl refl (still w refl refl (ap role_of same))))
+      (kept', (refl, roomy g plan s h lock near fits, moment w word None kept' (stays kinds.Load word false (standing v lock) part) refl refl (still w refl refl (ap role_of same)), refl))
 
   -- the counts of the others, and the law with this pass's standing x
   pub law_at : (x : Standing) → standing v lock ≡ x → Lawful word (named_by plan.shape.slots lock s.words) (plus (counts lock (set s.views id (gone v))) (weight x))

@@ -63,14 +63,14 @@ module _ {P : Type 0} where
   abbrev pub Apart : List (CargoSeat P) → Type 0
   Apart qs = (j k : ℕ) (q r : CargoSeat P) → get_elem? qs j ≡ some q → get_elem? qs k ≡ some r → j ≢ k → (lock : ℕ) → Together (slice_index_or q.modes lock None) (slice_index_or r.modes lock None)
 
-  -- whatever the cargo is when its word at a place becomes f of what it was, the pass can have a part that `becomes` tells of, and the rule stays
-  abbrev pub Notes : (List ℕ → List (CargoSeat P) → Type 0) → ℕ → CargoSeat P → ℕ → ℕ → (ℕ → ℕ) → (ℕ → P → P → Type 0) → Type 0
+  -- whatever the cargo is when its word at a place becomes f of what it was, the pass can have a part that `becomes` tells of, by the cargo's words of that moment and the word found, and the rule stays
+  abbrev pub Notes : (List ℕ → List (CargoSeat P) → Type 0) → ℕ → CargoSeat P → ℕ → ℕ → (ℕ → ℕ) → (List ℕ → ℕ → P → P → Type 0) → Type 0
   Notes holds id q used place f becomes = (ws : List ℕ) (qs : List (CargoSeat P)) → holds ws qs → Apart qs → get_elem? qs id ≡ some q → place < length ws → slice_index ws place < 18446744073709551616
-      → (part : P) × becomes (slice_index ws place) q.part part × holds (slice_set ws place (f (slice_index ws place))) (slice_set qs id (noted_seat q used part))
+      → (part : P) × becomes ws (slice_index ws place) q.part part × holds (slice_set ws place (f (slice_index ws place))) (slice_set qs id (noted_seat q used part))
 
   abbrev pub learnt_seat : CargoSeat P → P → CargoSeat P
   learnt_seat q part = record { number = q.number; quota = q.quota; modes = q.modes; part = part }
 
-  -- whatever number a step finds that touches no cargo word, the pass can have a part that `becomes` tells of, and the rule stays
-  abbrev pub NotesAside : (List ℕ → List (CargoSeat P) → Type 0) → ℕ → CargoSeat P → (ℕ → P → P → Type 0) → Type 0
-  NotesAside holds id q becomes = (ws : List ℕ) (qs : List (CargoSeat P)) → holds ws qs → Apart qs → get_elem? qs id ≡ some q → (found : ℕ) → found < 18446744073709551616 → (part : P) × becomes found q.part part × holds ws (slice_set qs id (learnt_seat q part))
+  -- whatever number a step finds that touches no cargo word, the pass can have a part that `becomes` tells of, by the cargo's words of that moment, and the rule stays
+  abbrev pub NotesAside : (List ℕ → List (CargoSeat P) → Type 0) → ℕ → CargoSeat P → (List ℕ → ℕ → P → P → Type 0) → Type 0
+  NotesAside holds id q becomes = (ws : List ℕ) (qs : List (CargoSeat P)) → holds ws qs → Apart qs → get_elem? qs id ≡ some q → (found : ℕ) → found < 18446744073709551616 → (part : P) × becomes ws found q.part part × holds ws (slice_set qs id (learnt_seat q part))

@@ -1,5 +1,5 @@
 -- The abstract lock that the passes' standings show, and what one step of the hall is of it.
-use Rattle.std.specs.Prelude.{◌≡◌, ◌≢◌, ℕ, ◌+◌, ◌<◌, ◌==◌, if◌then◌else◌, List, [], ◌∷◌, slice_index, slice_set, Option, Some, None}
+use Rattle.std.specs.Prelude.{◌≡◌, ◌≢◌, ℕ, ◌+◌, ◌<◌, ◌==◌, if◌then◌else◌, List, [], ◌∷◌, drop, slice_index, slice_set, Option, Some, None}
 use mathlib.Core.Option.{some}
 use lib.ListN.{get_elem?}
 use Rattle.atomic_table.specs.Table.{State}
@@ -61,3 +61,23 @@ module _ {C P : Type 0} (g : Ghosts C P) where
   -- the same on the lock's own word
   abbrev pub Moment : View P → View P → ℕ → ℕ → ℕ → Option Act → Type 0
   Moment v w lock found left act = MomentAt v w lock (v.shape.slots + lock) found left act
+
+  -- the cargo's words, which stand behind all slots and locks
+  abbrev pub cargo_words : Plan C → State (Unit {0}) (View P) → List ℕ
+  cargo_words plan s = drop (plan.shape.slots + plan.shape.locks) s.words
+
+  -- The moment of a step on a cargo word: the rule held before it and holds after it, these were the cargo's words, it found this word among them at its place and left that one there, and it changed this pass's view alone.
+  -- It is nothing of any lock: no slot and no lock's word changes, and each lock is shown as it was.
+  pub record CargoMoment (v w : View P) (place found left : ℕ) (ws : List ℕ) : Type 0 where
+    pub plan : Plan C
+    pub state : State (Unit {0}) (View P)
+    pub id : ℕ
+    pub shape : plan.shape ≡ v.shape
+    pub near : place < plan.shape.words
+    pub mine : get_elem? state.views id ≡ some v
+    pub words : cargo_words plan state ≡ ws
+    pub finds : slice_index ws place ≡ found
+    pub before : Holds g plan state
+    pub after : Holds g plan record { words = slice_set state.words (plan.shape.slots + plan.shape.locks + place) left; homes = state.homes; views = slice_set state.views id w }
+    pub apart : (k : ℕ) → k < plan.shape.slots + plan.shape.locks → slice_index (slice_set state.words (plan.shape.slots + plan.shape.locks + place) left) k ≡ slice_index state.words k
+    pub still : (lock : ℕ) → shown lock (slice_set state.views id w) ≡ shown lock state.views

@@ -1,5 +1,5 @@
 -- What each step tells its caller.
-use Rattle.std.specs.Prelude.{◌≡◌, ◌≢◌, ℕ, ◌+◌, ◌==◌, ◌||◌, not, Bool, true, false, List, length, Option, Some, None}
+use Rattle.std.specs.Prelude.{◌≡◌, ◌≢◌, ℕ, ◌+◌, ◌%◌, ◌^◌, ◌==◌, ◌||◌, not, Bool, true, false, List, length, Option, Some, None}
 use Rattle.atomic_table.specs.Table.{Me, Step}
 use Rattle.lock_model.specs.declared.model.Policy.{Policy}
 use Rattle.lock_model.specs.declared.model.Policy.TheVariants.{WritePriority, ReadPriority}
@@ -12,8 +12,8 @@ use Rattle.hall.specs.declared.view.Kind.{Kind}
 use Rattle.hall.specs.declared.view.Kind.TheVariants as kinds
 use Rattle.hall.specs.declared.view.Standing.{Standing}
 use Rattle.hall.specs.declared.view.Standing.TheVariants.{Away, Inline, Slotted, Undecided, Owing, Upgrade, Exclusive, Announcing}
-use Rattle.hall.specs.Views.{standing, after_look, after_step, after_note}
-use Rattle.hall.specs.Moves.{Moment}
+use Rattle.hall.specs.Views.{standing, after_look, after_step, after_note, cargo_place_of}
+use Rattle.hall.specs.Moves.{Moment, CargoMoment, cargo_words}
 
 -- HELD is set, or under write priority BEGUN
 abbrev pub conflicts_for_shared : Policy → ℕ → Bool
@@ -53,9 +53,9 @@ module _ {C P : Type 0} (g : Ghosts C P) where
   abbrev pub Loads : View P → ℕ → ℕ → View P → Type 0
   Loads = Looks kinds.Load
 
-  -- a load that also notes something in the part
-  abbrev pub LoadsNoted : (ℕ → P → P → Type 0) → View P → ℕ → ℕ → View P → Type 0
-  LoadsNoted becomes v lock found w = (part : P) × becomes found v.part part × (w ≡ after_step v kinds.Load lock found false (standing v lock) part) × HasRoom found × Moment g v w lock found found None
+  -- a load that also notes something in the part, of the cargo's words of its moment
+  abbrev pub LoadsNoted : (List ℕ → ℕ → P → P → Type 0) → View P → ℕ → ℕ → View P → Type 0
+  LoadsNoted becomes v lock found w = (ws : List ℕ) × (part : P) × becomes ws found v.part part × (w ≡ after_step v kinds.Load lock found false (standing v lock) part) × HasRoom found × (m : Moment g v w lock found found None) × (cargo_words g m.plan m.state ≡ ws)
 
   -- a mode was gained: the cargo words behind the lock were noted in the part
   abbrev pub Gains : Kind → Standing → View P → ℕ → ℕ → View P → Type 0
@@ -116,11 +116,19 @@ module _ {C P : Type 0} (g : Ghosts C P) where
   abbrev pub Releases : View P → ℕ → ℕ → View P → Type 0
   Releases v lock found w = (found ≡ 8) × (w ≡ after_step v kinds.Release lock 8 true Away (g.lowered lock None v.part)) × Moment g v w lock 8 0 (Some Leave)
 
-module _ {P : Type 0} where
-  -- a step on a cargo word that found r
-  abbrev pub MakesNote : (ℕ → P → P → Type 0) → Kind → Bool → ℕ → ℕ → Me (Unit {0}) (View P) → ℕ → Me (Unit {0}) (View P) → Type 0
-  MakesNote becomes kind won used place m r n = (n.1 ≡ m.1) × ((part : P) × becomes r m.0.part part × (n.0 ≡ after_note m.0 kind place r won used part))
+  -- a load of a cargo word: the note is of the cargo's words of its moment
+  abbrev pub LoadsWord : (List ℕ → ℕ → P → P → Type 0) → View P → ℕ → ℕ → View P → Type 0
+  LoadsWord becomes v place found w = (ws : List ℕ) × (part : P) × becomes ws found v.part part × (w ≡ after_note v kinds.LoadCargo (cargo_place_of v place) found false 0 part) × CargoMoment g v w place found found ws
 
-  -- a store of r, which tells nothing of what it found
-  abbrev pub StoresNote : (ℕ → P → P → Type 0) → Kind → ℕ → Me (Unit {0}) (View P) → ℕ → Me (Unit {0}) (View P) → Type 0
-  StoresNote becomes kind place m r n = (n.1 ≡ m.1) × ((found : ℕ) × (part : P) × becomes found m.0.part part × (n.0 ≡ after_note m.0 kind place r true 0 part))
+  -- a store of a value, which doesn't tell what it found
+  abbrev pub StoresWord : (List ℕ → ℕ → P → P → Type 0) → View P → ℕ → ℕ → View P → Type 0
+  StoresWord becomes v place value w = (found : ℕ) × (ws : List ℕ) × (part : P) × becomes ws found v.part part × (w ≡ after_note v kinds.StoreCargo (cargo_place_of v place) value true 0 part) × CargoMoment g v w place found value ws
+
+  -- n was added, and the quota falls by as much
+  abbrev pub AddsToWord : (List ℕ → ℕ → P → P → Type 0) → ℕ → View P → ℕ → ℕ → View P → Type 0
+  AddsToWord becomes n v place found w = (ws : List ℕ) × (part : P) × becomes ws found v.part part × (w ≡ after_note v kinds.AddCargo (cargo_place_of v place) found true n part) × CargoMoment g v w place found ((found + n) % 2 ^ 64) ws
+
+module _ {P : Type 0} where
+  -- what is told of the cargo word that it was
+  abbrev pub OnCargo : (View P → ℕ → ℕ → View P → Type 0) → Step (Unit {0}) → Me (Unit {0}) (View P) → ℕ → Me (Unit {0}) (View P) → Type 0
+  OnCargo f st m r n = (n.1 ≡ m.1) × ((place : ℕ) × (st.word ≡ cargo_place_of m.0 place) × f m.0 place r n.0)

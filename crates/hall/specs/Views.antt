@@ -79,6 +79,10 @@ module _ {P : Type 0} where
   abbrev pub place_of : View P → ℕ → ℕ
   place_of v lock = v.shape.slots + lock
 
+  -- the place of a cargo word in the table
+  abbrev pub cargo_place_of : View P → ℕ → ℕ
+  cargo_place_of v place = v.shape.slots + v.shape.locks + place
+
   -- a step for a lock, on the word at a place of the table
   abbrev pub entry_at : View P → Kind → ℕ → ℕ → ℕ → Bool → StepEntry
   entry_at v kind lock place word won = record { number = v.number; kind = kind; lock = lock; place = place; before = standing v lock; word = word; won = won }

@@ -54,6 +54,12 @@ pub trait CargoRule {
     ghost split_keeps: { (c : Self) (ws : List ℕ) (qs : List (CargoSeat Self.Part)) (id number left right : ℕ) (modes : List (Option Mode)) (q : CargoSeat Self.Part) → holds c ws qs → get_elem? qs id ≡ some q → q.quota ≡ left + right → ((lock : ℕ) → slice_index_or modes lock None ≡ None) → holds c ws (slice_set qs id (split_seat q left (kept q.part)) ++ record { number = number; quota = right; modes = modes; part = split_off q.part } ∷ []) };
     /// A join of a pass that has no mode and is at rest, which adds the quotas, keeps the rule.
     ghost join_keeps: { (c : Self) (ws : List ℕ) (qs : List (CargoSeat Self.Part)) (id other : ℕ) (q r : CargoSeat Self.Part) → holds c ws qs → get_elem? qs id ≡ some q → get_elem? qs other ≡ some r → other ≢ id → ((lock : ℕ) → slice_index_or r.modes lock None ≡ None) → rested r.part → holds c ws (slice_set (slice_set qs id (joined_seat q r (joined q.part r.part))) other (spent_seat spent)) };
+    /// What was learnt of a lock settles it.
+    ghost gains_settles: { (lock : ℕ) (ws : List ℕ) (p q : Self.Part) → gains lock ws p q → settled lock q };
+    /// It leaves the other locks settled.
+    ghost gains_leave: { (lock other : ℕ) (ws : List ℕ) (p q : Self.Part) → other ≢ lock → gains lock ws p q → settled other p → settled other q };
+    /// So does lowering or losing a mode.
+    ghost lowered_leaves: { (lock other : ℕ) (m : Option Mode) (p : Self.Part) → other ≢ lock → settled other p → settled other (lowered lock m p) };
 }
 
 /// What a hall carries, as its code sees it.

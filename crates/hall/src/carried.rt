@@ -1,9 +1,7 @@
 //! Steps on the cargo's words.
-ghost use Rattle.std.specs.Prelude.{◌≡◌, ◌+◌, ◌<◌, ◌≤◌, ◌%◌, ◌^◌, true, false};
+ghost use Rattle.std.specs.Prelude.{◌≡◌, ◌+◌, ◌<◌, ◌≤◌, ◌%◌, ◌^◌};
 ghost use Rattle.hall.specs.Cargo.{Notes, NotesAside};
 ghost use Rattle.hall.specs.Rule.{cargo_seat};
-ghost use Rattle.hall.specs.Views.{after_note};
-ghost use Rattle.hall.specs.declared.view.Kind.TheVariants.{LoadCargo, StoreCargo, AddCargo};
 
 use crate::cargo::Cargo;
 use crate::hall::{Hall, Pass};
@@ -12,7 +10,7 @@ use state_word::Word;
 
 impl<C: Cargo> Hall<C> {
     ghost use Rattle.hall.specs.Passes.{view, IsPassOf, shape_of, cargo_of};
-    ghost use Rattle.hall.specs.Plays.{LoadsNoted};
+    ghost use Rattle.hall.specs.Plays.{LoadsNoted, LoadsWord, StoresWord, AddsToWord};
 
     fn cargo_place(&self, place: u64) -> usize
         requires { place < (shape_of self.now).words }
@@ -22,8 +20,8 @@ impl<C: Cargo> Hall<C> {
         (self.slots + self.locks + place) as usize
     }
 
-    /// Loads the state word of a lock, and notes something in the pass's part of the cargo. The note has to keep the
-    /// cargo's rule.
+    /// Loads the state word of a lock, and notes something in the pass's part of the cargo, by the cargo's words of the same
+    /// moment. The note has to keep the cargo's rule.
     pub fn load_noted<N: Note<C>>(&self, pass: &mut Pass<C>, lock: u64) -> Word
         requires pass { IsPassOf self.now pass.old }
         requires lock { lock < (shape_of self.now).locks }
@@ -36,13 +34,14 @@ impl<C: Cargo> Hall<C> {
         Word(table.load::<LoadNotedAside<N, C>>(&mut pass.seat, place))
     }
 
-    /// Loads a cargo word. The note says what the pass knows afterwards; it has to keep the cargo's rule.
+    /// Loads a cargo word. The note says what the pass knows afterwards, by the cargo's words of that moment; it has to keep
+    /// the cargo's rule.
     pub fn load_cargo<N: Note<C>>(&self, pass: &mut Pass<C>, place: u64) -> u64
         requires pass { IsPassOf self.now pass.old }
         requires place { place < (shape_of self.now).words }
         requires note { Notes (C.holds (cargo_of self.now)) pass.old.seat.id (cargo_seat (view pass.old)) 0 place (λ x. x) N.becomes }
         ensures pass { IsPassOf self.now pass.new × (pass.new.seat.id ≡ pass.old.seat.id) }
-        ensures step { (part : C.Part) × N.becomes result (view pass.old).part part × (view pass.new ≡ after_note (view pass.old) LoadCargo ((shape_of self.now).slots + (shape_of self.now).locks + place) result false 0 part) }
+        ensures step { LoadsWord C.CargoRule N.becomes (view pass.old) place result (view pass.new) }
     {
         let word = self.cargo_place(place);
         let table = &self.table.shared;
@@ -55,7 +54,7 @@ impl<C: Cargo> Hall<C> {
         requires place { place < (shape_of self.now).words }
         requires note { Notes (C.holds (cargo_of self.now)) pass.old.seat.id (cargo_seat (view pass.old)) 0 place (λ _. value) N.becomes }
         ensures pass { IsPassOf self.now pass.new × (pass.new.seat.id ≡ pass.old.seat.id) }
-        ensures step { (found : _) × (part : C.Part) × N.becomes found (view pass.old).part part × (view pass.new ≡ after_note (view pass.old) StoreCargo ((shape_of self.now).slots + (shape_of self.now).locks + place) value true 0 part) }
+        ensures step { StoresWord C.CargoRule N.becomes (view pass.old) place value (view pass.new) }
     {
         let word = self.cargo_place(place);
         let table = &self.table.shared;
@@ -69,7 +68,7 @@ impl<C: Cargo> Hall<C> {
         requires quota { n ≤ (view pass.old).quota }
         requires note { Notes (C.holds (cargo_of self.now)) pass.old.seat.id (cargo_seat (view pass.old)) n place (λ x. (x + n) % 2 ^ 64) N.becomes }
         ensures pass { IsPassOf self.now pass.new × (pass.new.seat.id ≡ pass.old.seat.id) }
-        ensures step { (part : C.Part) × N.becomes result (view pass.old).part part × (view pass.new ≡ after_note (view pass.old) AddCargo ((shape_of self.now).slots + (shape_of self.now).locks + place) result true n part) }
+        ensures step { AddsToWord C.CargoRule N.becomes n (view pass.old) place result (view pass.new) }
     {
         let word = self.cargo_place(place);
         let table = &self.table.shared;

@@ -297,11 +297,12 @@ impl<C: CargoRule> Play<(), View<C::Part>> for Weigh<C> {
     ghost then = { λ st m r n. (n ≡ m) × (m.0.quota < 2 ^ 64) × Met C.CargoRule m.0 };
 }
 
-/// What a step on a cargo word leaves to its pass: of the word found, the part before and the part after.
+/// What a step leaves to its pass of the cargo: of the cargo's words of that moment, the word that it found, the part before
+/// and the part after.
 pub trait Note<C: CargoRule> {
-    ghost use Rattle.std.specs.Prelude.{ℕ};
+    ghost use Rattle.std.specs.Prelude.{ℕ, List};
 
-    ghost becomes: { ℕ → C.Part → C.Part → Type 0 };
+    ghost becomes: { List ℕ → ℕ → C.Part → C.Part → Type 0 };
 }
 
 pub struct LoadNotedAside<N, C> {
@@ -319,11 +320,9 @@ pub struct LoadNoted<N, C> {
 }
 
 impl<C: CargoRule, N: Note<C>> Play<(), View<C::Part>> for LoadNoted<N, C> {
-    ghost use Rattle.std.specs.Prelude.{false};
-    ghost use Rattle.hall.specs.Plays.{MakesNote};
-    ghost use Rattle.hall.specs.declared.view.Kind.TheVariants.{LoadCargo};
+    ghost use Rattle.hall.specs.Plays.{OnCargo, LoadsWord};
 
-    ghost then = { λ st m r n. MakesNote N.becomes LoadCargo false 0 st.word m r n };
+    ghost then = { OnCargo (LoadsWord C.CargoRule N.becomes) };
 }
 
 pub struct AddNoted<N, C> {
@@ -331,11 +330,9 @@ pub struct AddNoted<N, C> {
 }
 
 impl<C: CargoRule, N: Note<C>> Play<(), View<C::Part>> for AddNoted<N, C> {
-    ghost use Rattle.std.specs.Prelude.{true};
-    ghost use Rattle.hall.specs.Plays.{MakesNote};
-    ghost use Rattle.hall.specs.declared.view.Kind.TheVariants.{AddCargo};
+    ghost use Rattle.hall.specs.Plays.{OnCargo, AddsToWord};
 
-    ghost then = { λ st m r n. MakesNote N.becomes AddCargo true st.first st.word m r n };
+    ghost then = { λ st. OnCargo (AddsToWord C.CargoRule N.becomes st.first) st };
 }
 
 pub struct StoreNoted<N, C> {
@@ -343,8 +340,7 @@ pub struct StoreNoted<N, C> {
 }
 
 impl<C: CargoRule, N: Note<C>> Play<(), View<C::Part>> for StoreNoted<N, C> {
-    ghost use Rattle.hall.specs.Plays.{StoresNote};
-    ghost use Rattle.hall.specs.declared.view.Kind.TheVariants.{StoreCargo};
+    ghost use Rattle.hall.specs.Plays.{OnCargo, StoresWord};
 
-    ghost then = { λ st m r n. StoresNote N.becomes StoreCargo st.word m r n };
+    ghost then = { OnCargo (StoresWord C.CargoRule N.becomes) };
 }

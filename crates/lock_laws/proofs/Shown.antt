@@ -1,5 +1,5 @@
 -- Whom the lock shown lists, and what follows for a reader that enters.
-use Rattle.std.proofs.Common.{◌≡◌, ℕ, zero, suc, ◌<◌, List, [], ◌∷◌, sym, refl, subst, inl, inr, arith}
+use Rattle.std.proofs.Common.{◌≡◌, ℕ, zero, suc, ◌+◌, ◌<◌, ◌≤◌, Bool, true, false, None, List, [], ◌∷◌, sym, refl, subst, inl, inr, arith}
 use mathlib.Core.Logic.{dite}
 use mathlib.Core.Option.{some, some-injective, some-ne-none}
 use Rattle.std.proofs.Math.Decide.{dec_lt}
@@ -14,7 +14,13 @@ use Rattle.hall.specs.Moves.{shown, lock_shown}
 use Rattle.hall.specs.NumberLaws.{numbers_differ}
 use Rattle.hall.specs.Shows.{rule_shows}
 use Rattle.hall.specs.ShownLaws.{entry, shown_living, shown_spent}
-use Rattle.lock_laws.specs.Laws.{RuleShows, NoReaderEntersPast, ChangesFields}
+use Rattle.hall.specs.declared.view.Standing.{Standing}
+use Rattle.hall.specs.declared.view.Standing.TheVariants.{Away, Inline, Slotted, Undecided, Owing, Upgrade, Exclusive, Announcing}
+use Rattle.hall.specs.Cargo.{exclusive_mode}
+use Rattle.hall.specs.Locks.{Tally, weight, count}
+use Rattle.hall.specs.Views.{mode_of, standing}
+use Rattle.view_sums.specs.Sums.{total, terms_le}
+use Rattle.lock_laws.specs.Laws.{RuleShows, NoReaderEntersPast, CargoStepShows, HolderIsAlone, ChangesFields}
 
 module _ {P : Type 0} where
   -- a pass that isn't spent stands in the lock shown
@@ -27,6 +33,30 @@ module _ {P : Type 0} where
       (λ living. subst (λ (l : List SeatRole). Has l (entry lock u)) (sym (shown_living lock x xs living)) (inr rest))
       (λ dead. subst (λ (l : List SeatRole). Has l (entry lock u)) (sym (shown_spent lock x xs (omega arith))) rest)
 
+-- who holds exclusively counts once as such
+exclusive_one : (x : Standing) → mode_of x ≡ exclusive_mode → (weight x).exclusive ≡ 1
+exclusive_one x h = elim x as (λ z. mode_of z ≡ exclusive_mode → (weight z).exclusive ≡ 1) [
+  | Exclusive ↦ λ _. refl
+  | Away ↦ λ h. absurd (cc)
+  | Inline ↦ λ h. absurd (cc)
+  | Slotted k ↦ λ h. absurd (cc)
+  | Undecided k ↦ λ h. absurd (cc)
+  | Owing ↦ λ h. absurd (cc)
+  | Upgrade ↦ λ h. absurd (cc)
+  | Announcing p k f ↦ elim f as (λ b. mode_of (Announcing p k b) ≡ exclusive_mode → (weight (Announcing p k b)).exclusive ≡ 1) [ true ↦ λ h. absurd (cc) | false ↦ λ h. absurd (cc) ]
+] h
+
+-- who counts as nothing that has a mode has none
+no_mode : (x : Standing) → (weight x).exclusive + (weight x).shared + (weight x).upgrade + (weight x).raised ≤ 0 → mode_of x ≡ None
+no_mode x h = elim x as (λ z. (weight z).exclusive + (weight z).shared + (weight z).upgrade + (weight z).raised ≤ 0 → mode_of z ≡ None) [
+  | Inline ↦ λ h. absurd (omega arith)
+  | Slotted k ↦ λ h. absurd (omega arith)
+  | Upgrade ↦ λ h. absurd (omega arith)
+  | Exclusive ↦ λ h. absurd (omega arith)
+  | Announcing p k f ↦ elim f as (λ b. (weight (Announcing p k b)).exclusive + (weight (Announcing p k b)).shared + (weight (Announcing p k b)).upgrade + (weight (Announcing p k b)).raised ≤ 0 → mode_of (Announcing p k b) ≡ None) [ true ↦ λ h. absurd (omega arith) | false ↦ λ _. refl ]
+  | _ ↦ λ _. refl
+] h
+
 module _ {C P : Type 0} (g : Ghosts C P) where
   pub shows_locks : RuleShows g
   shows_locks plan s h lock near = rule_shows g plan s h lock near
@@ -35,6 +65,16 @@ module _ {C P : Type 0} (g : Ghosts C P) where
   enters_past_nobody v w lock found left m lives first j u there ne living f =
       no_reader_passes (lock_shown v.shape.policy lock m.state.views) _ v.number first m.moves (entry lock u) f (shows_it m.state.views lock j u there living)
       (numbers_differ m.plan.shape.seats m.state.views m.id j v u m.before.numbered m.mine there ne lives living)
+
+  pub moves_no_lock : CargoStepShows g
+  moves_no_lock v w place found left ws m lock near = (rule_shows g m.plan m.state m.before lock near, m.still lock)
+
+  pub alone_there : HolderIsAlone g
+  alone_there v w place found left ws m lock near held j u there ne =
+      let l = m.before.lawful lock near in let one = exclusive_one (standing v lock) held in
+      let two : (f : Tally → ℕ) → f (weight (standing v lock)) + f (weight (standing u lock)) ≤ total (count f lock) m.state.views = λ f. terms_le (count f lock) m.state.views m.id j v u ne m.mine there in
+      let nobody = l.nobody (omega (arith, one, two (λ t. t.exclusive))) in let alone = l.alone in
+      no_mode (standing u lock) (omega (arith, one, nobody, alone, two (λ t. t.exclusive), two (λ t. t.upgrade), two (λ t. t.raised), two (λ t. t.shared)))
 
 pub sets_fields : ChangesFields
 sets_fields w fits = record {

@@ -1,5 +1,5 @@
 -- The statements of the laws.
-use Rattle.std.specs.Prelude.{◌≡◌, ◌≢◌, ℕ, ◌+◌, ◌%◌, ◌<◌, if◌then◌else◌, Some}
+use Rattle.std.specs.Prelude.{◌≡◌, ◌≢◌, ℕ, ◌+◌, ◌%◌, ◌<◌, if◌then◌else◌, List, slice_set, Some, None}
 use mathlib.Core.Option.{some}
 use lib.ListN.{get_elem?}
 use Rattle.atomic_table.specs.Table.{State}
@@ -14,10 +14,11 @@ use Rattle.state_word.specs.Words.{fields, fields_of, is_deep, may_defer_of, upg
 use Rattle.hall.specs.declared.cargo.CargoRule.{Ghosts}
 use Rattle.hall.specs.declared.view.Plan.{Plan}
 use Rattle.hall.specs.declared.view.View.{View}
-use Rattle.hall.specs.Moves.{Moment, role_of}
+use Rattle.hall.specs.Moves.{Moment, CargoMoment, shown, role_of}
+use Rattle.hall.specs.Cargo.{exclusive_mode}
 use Rattle.hall.specs.Rule.{Holds}
 use Rattle.hall.specs.Shows.{LockShows}
-use Rattle.hall.specs.Views.{standing}
+use Rattle.hall.specs.Views.{standing, mode_of}
 
 module _ {C P : Type 0} (g : Ghosts C P) where
   -- where the rule holds, each lock is so
@@ -28,6 +29,16 @@ module _ {C P : Type 0} (g : Ghosts C P) where
   abbrev pub NoReaderEntersPast : Type 0
   NoReaderEntersPast = (v w : View P) (lock found left : ℕ) (m : Moment g v w lock found left (Some EnterShared)) → 0 < v.span → v.shape.policy ≡ WritePriority
       → (j : ℕ) (u : View P) → get_elem? m.state.views j ≡ some u → j ≢ m.id → 0 < u.span → (f : Bool) → role_of (standing u lock) ≢ Announces f
+
+  -- at the moment of a step on a cargo word each lock is as the rule shows it, and the step leaves it so
+  abbrev pub CargoStepShows : Type 0
+  CargoStepShows = (v w : View P) (place found left : ℕ) (ws : List ℕ) (m : CargoMoment g v w place found left ws) (lock : ℕ) → lock < m.plan.shape.locks
+      → LockShows m.plan.shape.slots lock m.state.words m.state.views × (shown lock (slice_set m.state.views m.id w) ≡ shown lock m.state.views)
+
+  -- who holds a lock exclusively is alone there at the moment of each of its steps on a cargo word
+  abbrev pub HolderIsAlone : Type 0
+  HolderIsAlone = (v w : View P) (place found left : ℕ) (ws : List ℕ) (m : CargoMoment g v w place found left ws) (lock : ℕ) → lock < m.plan.shape.locks → mode_of (standing v lock) ≡ exclusive_mode
+      → (j : ℕ) (u : View P) → get_elem? m.state.views j ≡ some u → j ≢ m.id → mode_of (standing u lock) ≡ None
 
 -- each allowed event keeps a lawful lock lawful
 abbrev pub MovesKeepLawful : Type 0

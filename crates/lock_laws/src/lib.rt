@@ -1,12 +1,13 @@
 //! The laws of the shared locks, each as the contract of a function that does nothing: what the rule of a hall says of
 //! each lock between any two steps, that each allowed move of the abstract lock keeps it lawful, that under write
-//! priority no reader enters past an announced writer, and what each change of a state word does to its fields.
+//! priority no reader enters past an announced writer, that steps on cargo words move no lock and that an exclusive
+//! holder is alone at them, and what each change of a state word does to its fields.
 //!
 //! `specs/Laws.antt` names the statements. Their proofs stand where their words are defined: in `hall`, `lock_model`
 //! and `state_word`.
 #![tactic(auto)]
 
-ghost use Rattle.lock_laws.specs.Laws.{RuleShows, MovesKeepLawful, NoReaderPasses, NoReaderEntersPast, ChangesFields};
+ghost use Rattle.lock_laws.specs.Laws.{RuleShows, MovesKeepLawful, NoReaderPasses, NoReaderEntersPast, CargoStepShows, HolderIsAlone, ChangesFields};
 
 use hall::CargoRule;
 
@@ -30,6 +31,16 @@ pub fn no_reader_passes_a_writer()
 /// So no step of a hall under write priority enters a reader while another pass is announced at its lock.
 pub fn no_reader_enters_past_a_writer<C: CargoRule>()
     ensures { NoReaderEntersPast C.CargoRule }
+{}
+
+/// A step on a cargo word moves no lock: at its moment each lock is as the rule shows it, and so it stays.
+pub fn a_cargo_step_moves_no_lock<C: CargoRule>()
+    ensures { CargoStepShows C.CargoRule }
+{}
+
+/// At the moment of each step on a cargo word that an exclusive holder makes, no other pass has a mode at its lock.
+pub fn an_exclusive_holder_is_alone<C: CargoRule>()
+    ensures { HolderIsAlone C.CargoRule }
 {}
 
 /// Each change of a state word sets its own fields, and all others stay.

@@ -35,7 +35,7 @@ drawn p w e made = record { words = p.words; made = noted made (named_cells e.qu
 pub draws : (c : MapCargo) (id place writes : ℕ) (e f : Entry) (q : Seat) → place ≡ number_place c → e ≡ f → c.writes ≡ writes → 1 ≤ q.quota
     → ((cell : ℕ) → Has (named_cells e.query) cell → cell < c.cells) → ((cell : ℕ) → Has (named_cells e.query) cell → mode_at q cell ≡ exclusive_mode)
     → reply_of c.rows (plain_of q.part) e.query ≡ Some e.said → is_write e.said ≡ true → IsRested q.part
-    → Notes (OneHistory c) id q 1 place (λ x. (x + 1) % 2 ^ 64) (λ found p r. Drew 0 p r found f × (found < writes))
+    → Notes (OneHistory c) id q 1 place (λ x. (x + 1) % 2 ^ 64) (λ words found p r. Drew 0 p r found f × (found < writes))
 draws c id place writes e f q is one many some' near holds said writes' rested ws qs h apart at in' fits =
     let E : List Entry = h.entries in let n : ℕ = length E in let k = h.knows id q at in
     let M : Maps = maps_after (first_maps c) (queries E) in
@@ -114,7 +114,7 @@ draws c id place writes e f q is one many some' near holds said writes' rested w
 
 -- a word of its log row is stored
 pub logs : (c : MapCargo) (id place value n k k' : ℕ) (e : Entry) (q : Seat) → place ≡ log_place c n k → k ≡ k' → k < 8 → q.part.row ≡ n → q.part.stored ≡ k → Has q.part.told (Wrote n e) → value ≡ get_or (log_words e) k 0
-    → Notes (OneHistory c) id q 0 place (λ _. value) (λ found p r. r ≡ logged p (k' + 1))
+    → Notes (OneHistory c) id q 0 place (λ _. value) (λ words found p r. r ≡ logged p (k' + 1))
 logs c id place value n k k' e q is one few row is_stored mine' same ws qs h apart at in' fits =
     let k0 = h.knows id q at in let E : List Entry = h.entries in let part : Part = logged q.part (k + 1) in let r : Seat = noted_seat q 0 part in
     let M : Maps = maps_after (first_maps c) (queries E) in
@@ -164,7 +164,7 @@ logs c id place value n k k' e q is one few row is_stored mine' same ws qs h apa
 pub places : (c : MapCargo) (id place writes : ℕ) (e f : Entry) (q : Seat) → place ≡ number_place c → e ≡ f → c.writes ≡ writes
     → ((cell : ℕ) → Has (spoken_cells e.query) cell → cell < c.cells) → ((cell : ℕ) → Has (spoken_cells e.query) cell → mode_at q cell ≢ None)
     → reply_of c.rows (plain_of q.part) e.query ≡ Some e.said → is_write e.said ≡ false
-    → Notes (OneHistory c) id q 0 place (λ x. x) (λ found p r. (r ≡ placed p found f) × (p.seen ≤ found) × (found ≤ writes))
+    → Notes (OneHistory c) id q 0 place (λ x. x) (λ words found p r. (r ≡ placed p found f) × (p.seen ≤ found) × (found ≤ writes))
 places c id place writes e f q is one limit near holds said reads' ws qs h apart at in' fits =
     let E : List Entry = h.entries in let n : ℕ = length E in let k = h.knows id q at in
     let M : Maps = maps_after (first_maps c) (queries E) in

@@ -48,7 +48,7 @@ module _ (c : MapCargo) (ws : List ℕ) (qs : List Seat) (id : ℕ) (q : Seat) (
 
 -- a load of a word of a held cell
 pub reads : (c : MapCargo) (id cell i place cell' i' w' : ℕ) (q : Seat) → place ≡ cell * width c + i → cell ≡ cell' → i ≡ i' → width c ≡ w' → cell < c.cells → i < width c → mode_at q cell ≢ None
-    → Notes (OneHistory c) id q 0 place (λ x. x) (λ found p r. (r ≡ p) × (found ≡ get_or (words_of p cell') i' 0) × (length (words_of p cell') ≡ w'))
+    → Notes (OneHistory c) id q 0 place (λ x. x) (λ words found p r. (r ≡ p) × (found ≡ get_or (words_of p cell') i' 0) × (length (words_of p cell') ≡ w'))
 reads c id cell i place cell' i' w' q is one two three below small has ws qs h apart at in' fits =
     let k = h.knows id q at in let t = k.known cell below has in
     let read : get_or ws place 0 ≡ get_or (words_of q.part cell) i 0 = ap (λ (z : ℕ). get_or ws z 0) is ∙ sym (word_at c ws cell i small) ∙ ap (λ (l : List ℕ). get_or l i 0) (sym t.0) in
@@ -60,7 +60,7 @@ reads c id cell i place cell' i' w' q is one two three below small has ws qs h a
 
 -- a store of a word of a cell that is held exclusively
 pub stores : (c : MapCargo) (id cell i place value cell' i' value' w' : ℕ) (q : Seat) → place ≡ cell * width c + i → cell ≡ cell' → i ≡ i' → value ≡ value' → width c ≡ w' → cell < c.cells → i < width c → mode_at q cell ≡ exclusive_mode
-    → Notes (OneHistory c) id q 0 place (λ _. value) (λ found p r. (r ≡ rewrote p cell' i' value') × (length (words_of p cell') ≡ w'))
+    → Notes (OneHistory c) id q 0 place (λ _. value) (λ words found p r. (r ≡ rewrote p cell' i' value') × (length (words_of p cell') ≡ w'))
 stores c id cell i place value cell' i' value' w' q is one two same three below small has ws qs h apart at in' fits =
     let k = h.knows id q at in let part : Part = rewrote q.part cell i value in let r : Seat = noted_seat q 0 part in
     let some' : mode_at q cell ≢ None = λ none. (let bad : None ≡ exclusive_mode = sym none ∙ has in cc) in let t = k.known cell below some' in

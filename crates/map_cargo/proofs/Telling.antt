@@ -69,7 +69,7 @@ refusal_mark w query (Late now) h = refl
 refusal_mark w query (Job at result) h = absurd h
 
 -- a refusal is told
-pub refuses : (c : MapCargo) (id caller index : ℕ) (query : Query) (reply : Reply) (t : Told) (q : Seat) → Refused caller index query reply ≡ t → IsRefusal reply → NotesAside (OneHistory c) id q (λ found p r. r ≡ told_too p t)
+pub refuses : (c : MapCargo) (id caller index : ℕ) (query : Query) (reply : Reply) (t : Told) (q : Seat) → Refused caller index query reply ≡ t → IsRefusal reply → NotesAside (OneHistory c) id q (λ words found p r. r ≡ told_too p t)
 refuses c id caller index query reply t q is refusal ws qs h apart at found fits =
     let k = h.knows id q at in let part : Part = told_too q.part (Refused caller index query reply) in let r : Seat = learnt_seat q part in (
       part,

@@ -1,15 +1,48 @@
--- What the search for a key adds to the steps.
-use Rattle.std.proofs.Common.{◌≡◌, ◌≢◌, ◌+◌, ◌*◌, ℕ, suc, false, List, [], ◌∷◌, ◌++◌, Option, Some, None, sym, refl, ap, ◌∙◌, subst, inl, inr, append_assoc, append-nil}
+-- What the calls on a cell add to the steps.
+use Rattle.std.proofs.Common.{◌≡◌, ◌≢◌, ◌+◌, ◌*◌, ◌<◌, ℕ, suc, false, true, List, [], ◌∷◌, ◌++◌, Option, Some, None, sym, refl, ap, ◌∙◌, subst, ⊎_elim, inl, inr, append_assoc, append-nil}
 use Rattle.hall.specs.declared.view.View.{View}
-use Rattle.hall.specs.declared.view.Kind.TheVariants.{LoadCargo}
+use Rattle.hall.specs.declared.view.Kind.TheVariants.{LoadCargo, StoreCargo}
+use Rattle.hall.specs.declared.view.Shape.{Shape}
 use Rattle.hall.specs.declared.view.StepEntry.{StepEntry}
 use Rattle.hall.specs.declared.view.Standing.TheVariants.{Away}
 use Rattle.map_cargo.specs.declared.size.MapCargo.{MapCargo}
 use Rattle.map_cargo.specs.declared.entry.Part.{Part}
 use Rattle.map_cargo.specs.Cells.{width}
+use Rattle.map_cargo.specs.Laws.{Has-split}
 use Rattle.map_cargo.specs.Rows.{home, row_above}
-use Rattle.map_cargo.specs.Probes.{loaded, Probes, Seeks}
-use Rattle.map_cargo.specs.Steps.{Alike}
+use Rattle.map_cargo.specs.Probes.{loaded, IsInCell, StaysInCell, Probes, Seeks}
+use Rattle.map_cargo.specs.StepLaws.{alike_then}
+use Rattle.map_cargo.specs.Steps.{Alike, cargo_step}
+
+module _ (c : MapCargo) (cell : ℕ) where
+  -- a call of which this is said changes nothing of a pass but its part, by steps in one cell
+  abbrev pub Within : View Part → View Part → Type 0
+  Within v w = Alike v w × StaysInCell c cell v w
+
+  pub inside_none : (v : View Part) → StaysInCell c cell v v
+  inside_none v = record { added = []; stand = refl; each = λ e bad. absurd bad }
+
+  one_inside : (v w : View Part) (e : StepEntry) → IsInCell c cell v e → w.steps ≡ e ∷ v.steps → StaysInCell c cell v w
+  one_inside v w e here is = record { added = e ∷ []; stand = is; each = λ x has. ⊎_elim (λ same. subst (IsInCell c cell v) (sym same) here) (λ bad. absurd bad) has }
+
+  pub load_inside : (v w : View Part) (i x : ℕ) → i < width c → w.steps ≡ loaded c v cell i x ∷ v.steps → StaysInCell c cell v w
+  load_inside v w i x low is = one_inside v w (loaded c v cell i x) record { index = i; below = low; place = refl; kind = inl refl; number = refl } is
+
+  pub store_inside : (v w : View Part) (i x : ℕ) → i < width c → w.steps ≡ cargo_step v StoreCargo (cell * width c + i) x true ∷ v.steps → StaysInCell c cell v w
+  store_inside v w i x low is = one_inside v w (cargo_step v StoreCargo (cell * width c + i) x true) record { index = i; below = low; place = refl; kind = inr refl; number = refl } is
+
+  seen_before : (v u : View Part) (e : StepEntry) → Alike v u → IsInCell c cell u e → IsInCell c cell v e
+  seen_before v u e like h = record { index = h.index; below = h.below; place = h.place ∙ ap (λ (s : Shape). s.slots + s.locks + (cell * width c + h.index)) like.shape; kind = h.kind; number = h.number ∙ like.number }
+
+  pub inside_then : (v u w : View Part) → Alike v u → StaysInCell c cell v u → StaysInCell c cell u w → StaysInCell c cell v w
+  inside_then v u w like a b = record {
+    added = b.added ++ a.added;
+    stand = b.stand ∙ ap (λ (l : List StepEntry). b.added ++ l) a.stand ∙ sym (append_assoc b.added a.added v.steps);
+    each = λ e has. ⊎_elim (λ h. seen_before v u e like (b.each e h)) (a.each e) (Has-split b.added a.added e has);
+  }
+
+  pub within_then : (v u w : View Part) → Within v u → Within u w → Within v w
+  within_then v u w a b = (alike_then v u w a.0 b.0, inside_then v u w a.0 a.1 b.1)
 
 module _ (c : MapCargo) (v : View Part) (cell key : ℕ) where
   -- a search that came as far as this row, and has so many rows left: whatever loads complete it complete the whole

@@ -266,6 +266,15 @@ after_gain lock p q t =
       λ k ne. (lookup_else [] p.words lock k t.0 ne, ap (λ (x : Made). map_made x k) (lookup_else unmade p.made lock k t.1 ne)),
     )
 
+-- the cell is settled
+pub gains_settles : (lock : ℕ) (p q : Part) → Learns lock p q → IsSettled lock q
+gains_settles lock p q t = (after_gain lock p q t).0
+
+-- and each other cell that was
+pub gains_leave : (lock other : ℕ) (p q : Part) → other ≢ lock → Learns lock p q → IsSettled other p → IsSettled other q
+gains_leave lock other p q ne t settled = let same = (after_gain lock p q t).5 other ne in
+    subst (λ (l : List ℕ). Means l (plain_of q other)) (sym same.0) (subst (Means (words_of p other)) (sym same.1) settled)
+
 each_cons : (F : Seat → Type 0) (q : Seat) (qs : List Seat) → F q → Each F qs → Each F (q ∷ qs)
 each_cons F q qs one all zero u e = subst F (some-injective q u e) one
 each_cons F q qs one all (suc j) u e = all j u e

@@ -1,8 +1,10 @@
--- Which words of a cell the search for a key loads.
-use Rattle.std.specs.Prelude.{◌≡◌, ◌≢◌, ℕ, ◌+◌, ◌*◌, ◌⊎◌, zero, suc, false, Option, Some, None, List, [], ◌∷◌, ◌++◌}
+-- Which words of a cell the calls on it load and store, and which of them the search for a key loads.
+use Rattle.std.specs.Prelude.{◌≡◌, ◌≢◌, ℕ, ◌+◌, ◌*◌, ◌<◌, ◌⊎◌, zero, suc, false, Option, Some, None, List, [], ◌∷◌, ◌++◌}
+use Rattle.lock_model.specs.Locks.{Has}
 use Rattle.hall.specs.declared.view.View.{View}
-use Rattle.hall.specs.declared.view.Kind.TheVariants.{LoadCargo}
+use Rattle.hall.specs.declared.view.Kind.TheVariants.{LoadCargo, StoreCargo}
 use Rattle.hall.specs.declared.view.StepEntry.{StepEntry}
+use Rattle.hall.specs.Views.{cargo_place_of}
 use Rattle.map_cargo.specs.declared.size.MapCargo.{MapCargo}
 use Rattle.map_cargo.specs.declared.cells.Search.{Search}
 use Rattle.map_cargo.specs.declared.cells.Search.TheVariants.{Here, Free, Nowhere}
@@ -14,6 +16,20 @@ use Rattle.map_cargo.specs.Steps.{cargo_step}
 -- a load of a word of a cell
 abbrev pub loaded : MapCargo → View Part → ℕ → ℕ → ℕ → StepEntry
 loaded c v cell index word = cargo_step v LoadCargo (cell * width c + index) word false
+
+-- a step of the pass that loads or stores a word of a cell
+pub record IsInCell (c : MapCargo) (cell : ℕ) (v : View Part) (e : StepEntry) : Type 0 where
+  pub index : ℕ
+  pub below : index < width c
+  pub place : e.place ≡ cargo_place_of v (cell * width c + index)
+  pub kind : (e.kind ≡ LoadCargo) ⊎ (e.kind ≡ StoreCargo)
+  pub number : e.number ≡ v.number
+
+-- each step that a call added loads or stores a word of this cell
+pub record StaysInCell (c : MapCargo) (cell : ℕ) (v w : View Part) : Type 0 where
+  pub added : List StepEntry
+  pub stand : w.steps ≡ added ++ v.steps
+  pub each : (e : StepEntry) → Has added e → IsInCell c cell v e
 
 -- These loads, the newest first, look for a key in at most so many rows of a cell, from a row on, and this is the value:
 -- of each row the used word; where it is 1 the key word; and where that is the key the value word, which is the last.

@@ -3,17 +3,18 @@
 //! A cell has its length and then its rows, of three words each: used (0 or 1), key and value. The search for a key begins
 //! at its home and goes up from row to row, as far as the key's row or one that isn't used: each row from a key's home up
 //! to its row is used. A deletion closes the gap that it makes.
-ghost use Rattle.std.specs.Prelude.{◌≡◌, ◌≢◌, ◌<◌, ◌∷◌, ◌++◌, ℕ, List, length, slice_index, slice_set, Some, None, MatchResult, MatchOption, IfSome};
+ghost use Rattle.std.specs.Prelude.{◌≡◌, ◌≢◌, ◌<◌, ◌+◌, ◌*◌, ◌∷◌, ◌++◌, ℕ, List, true, length, slice_index, slice_set, Some, None, MatchResult, MatchOption, IfSome};
 ghost use Rattle.hall.specs.Cargo.{exclusive_mode};
 ghost use Rattle.hall.specs.Passes.{view, IsPassOf, cargo_of};
 ghost use Rattle.hall.specs.Views.{standing, mode_of};
+ghost use Rattle.hall.specs.declared.view.Kind.TheVariants.{StoreCargo};
 ghost use Rattle.hall.specs.declared.view.StepEntry.{StepEntry};
 ghost use Rattle.query_rules.specs.Maps.{PlainMap, with_value, without};
 ghost use Rattle.map_cargo.specs.Cells.{width, Means};
 ghost use Rattle.map_cargo.specs.History.{words_of};
-ghost use Rattle.map_cargo.specs.Probes.{loaded, Probes, Sought, Ends};
+ghost use Rattle.map_cargo.specs.Probes.{loaded, StaysInCell, Probes, Sought, Ends};
 ghost use Rattle.map_cargo.specs.Rows.{home, key_at, value_in, IsUsed, Passed, Table, Closing, WithRow, Moved, IsNext, Closes, Removed};
-ghost use Rattle.map_cargo.specs.Steps.{Suits, Alike, Reworded, rewrote};
+ghost use Rattle.map_cargo.specs.Steps.{Suits, Alike, Reworded, rewrote, cargo_step};
 
 use crate::size::MapCargo;
 use hall::{Hall, Note, Pass};
@@ -47,7 +48,7 @@ pub(crate) struct Saw<K> {
 }
 
 impl<K: Spot> Note<MapCargo> for Saw<K> {
-    ghost becomes = { λ found p q. (q ≡ p) × (found ≡ slice_index (words_of p K.cell) K.index) × (length (words_of p K.cell) ≡ K.width) };
+    ghost becomes = { λ ws found p q. (q ≡ p) × (found ≡ slice_index (words_of p K.cell) K.index) × (length (words_of p K.cell) ≡ K.width) };
 }
 
 pub(crate) struct Wrote<K> {
@@ -55,7 +56,7 @@ pub(crate) struct Wrote<K> {
 }
 
 impl<K: Spot> Note<MapCargo> for Wrote<K> {
-    ghost becomes = { λ found p q. (q ≡ rewrote p K.cell K.index K.value) × (length (words_of p K.cell) ≡ K.width) };
+    ghost becomes = { λ ws found p q. (q ≡ rewrote p K.cell K.index K.value) × (length (words_of p K.cell) ≡ K.width) };
 }
 
 fn word_by<K: Spot>(hall: &Hall<MapCargo>, pass: &mut Pass<MapCargo>, cell: u64, index: u64) -> u64
@@ -106,6 +107,7 @@ fn set_word_by<K: Spot>(
     ensures pass { IsPassOf hall.now pass.new × Alike (view pass.old) (view pass.new) }
     ensures part { (view pass.new).part ≡ rewrote (view pass.old).part cell index value }
     ensures length { length (words_of (view pass.old).part cell) ≡ width (cargo_of hall.now) }
+    ensures step { (view pass.new).steps ≡ cargo_step (view pass.old) StoreCargo (cell * width (cargo_of hall.now) + index) value true ∷ (view pass.old).steps }
 {
     let first = cell * hall.cargo().width();
     hall.store_cargo::<Wrote<K>>(pass, first + index, value);
@@ -128,6 +130,7 @@ pub(crate) fn set_word(
     ensures words { words_of (view pass.new).part cell ≡ slice_set (words_of (view pass.old).part cell) index value }
     ensures part { Reworded cell (view pass.old).part (view pass.new).part }
     ensures length { length (words_of (view pass.old).part cell) ≡ width (cargo_of hall.now) }
+    ensures step { (view pass.new).steps ≡ cargo_step (view pass.old) StoreCargo (cell * width (cargo_of hall.now) + index) value true ∷ (view pass.old).steps }
 {
     set_word_by::<Brand>(hall, pass, cell, index, value);
 }
@@ -141,6 +144,8 @@ pub fn len(hall: &Hall<MapCargo>, pass: &mut Pass<MapCargo>, cell: u64) -> u64
     ensures pass { IsPassOf hall.now pass.new × Alike (view pass.old) (view pass.new) }
     ensures part { (view pass.new).part ≡ (view pass.old).part }
     ensures counted { (m : PlainMap) → Means (words_of (view pass.old).part cell) m → result ≡ m.count }
+    ensures inside { StaysInCell (cargo_of hall.now) cell (view pass.old) (view pass.new) }
+    ensures load { (view pass.new).steps ≡ loaded (cargo_of hall.now) (view pass.old) cell 0 result ∷ (view pass.old).steps }
 {
     word(hall, pass, cell, 0)
 }
@@ -169,6 +174,7 @@ fn find(hall: &Hall<MapCargo>, pass: &mut Pass<MapCargo>, cell: u64, key: u64) -
     ensures length { length (words_of (view pass.old).part cell) ≡ width (cargo_of hall.now) }
     ensures ends { Ends (cargo_of hall.now).rows (words_of (view pass.old).part cell) key result }
     ensures loads { (added : List StepEntry) × ((view pass.new).steps ≡ added ++ (view pass.old).steps) × Sought (cargo_of hall.now) (view pass.old) cell key result added }
+    ensures inside { StaysInCell (cargo_of hall.now) cell (view pass.old) (view pass.new) }
 {
     let rows = hall.cargo().rows;
     let mut row = hall.cargo().home(key);
@@ -199,6 +205,7 @@ pub fn get(hall: &Hall<MapCargo>, pass: &mut Pass<MapCargo>, cell: u64, key: u64
     ensures part { (view pass.new).part ≡ (view pass.old).part }
     ensures got { (m : PlainMap) → Means (words_of (view pass.old).part cell) m → result ≡ m.value_at key }
     ensures loads { (added : List StepEntry) × ((view pass.new).steps ≡ added ++ (view pass.old).steps) × Probes (cargo_of hall.now) (view pass.old) cell key (home (cargo_of hall.now).rows key) (cargo_of hall.now).rows result added }
+    ensures inside { StaysInCell (cargo_of hall.now) cell (view pass.old) (view pass.new) }
 {
     match find(hall, pass, cell, key) {
         Search::Here(row) => Some(word(hall, pass, cell, 3 * row + 3)),
@@ -231,6 +238,7 @@ pub fn put(
     ensures pass { IsPassOf hall.now pass.new × Alike (view pass.old) (view pass.new) }
     ensures part { Reworded cell (view pass.old).part (view pass.new).part }
     ensures put { (m : PlainMap) → Means (words_of (view pass.old).part cell) m → MatchResult result (λ before. (before ≡ m.value_at key) × (before ≡ None → m.count < (cargo_of hall.now).rows) × Means (words_of (view pass.new).part cell) (with_value m key value)) (λ full. (full.rows ≡ (cargo_of hall.now).rows) × (m.value_at key ≡ None) × (m.count ≡ (cargo_of hall.now).rows) × (view pass.new).part ≡ (view pass.old).part) }
+    ensures inside { StaysInCell (cargo_of hall.now) cell (view pass.old) (view pass.new) }
 {
     match find(hall, pass, cell, key) {
         Search::Here(row) => {
@@ -267,6 +275,7 @@ fn set_row(
     ensures pass { IsPassOf hall.now pass.new × Alike (view pass.old) (view pass.new) }
     ensures part { Reworded cell (view pass.old).part (view pass.new).part }
     ensures row { WithRow (words_of (view pass.old).part cell) (words_of (view pass.new).part cell) row 1 key value }
+    ensures inside { StaysInCell (cargo_of hall.now) cell (view pass.old) (view pass.new) }
 {
     set_word(hall, pass, cell, 3 * row + 1, 1);
     set_word(hall, pass, cell, 3 * row + 2, key);
@@ -284,6 +293,7 @@ fn move_row(hall: &Hall<MapCargo>, pass: &mut Pass<MapCargo>, cell: u64, from: u
     ensures pass { IsPassOf hall.now pass.new × Alike (view pass.old) (view pass.new) }
     ensures part { Reworded cell (view pass.old).part (view pass.new).part }
     ensures moved { Moved (words_of (view pass.old).part cell) (words_of (view pass.new).part cell) from gap }
+    ensures inside { StaysInCell (cargo_of hall.now) cell (view pass.old) (view pass.new) }
 {
     let key = word(hall, pass, cell, 3 * from + 2);
     let value = word(hall, pass, cell, 3 * from + 3);
@@ -301,6 +311,7 @@ fn row_for(hall: &Hall<MapCargo>, pass: &mut Pass<MapCargo>, cell: u64, gap: u64
     ensures pass { IsPassOf hall.now pass.new × Alike (view pass.old) (view pass.new) }
     ensures part { (view pass.new).part ≡ (view pass.old).part }
     ensures row { MatchOption result (Passed (cargo_of hall.now).rows (words_of (view pass.old).part cell) gap) (λ from. IsNext (cargo_of hall.now).rows (words_of (view pass.old).part cell) gap from) }
+    ensures inside { StaysInCell (cargo_of hall.now) cell (view pass.old) (view pass.new) }
 {
     let rows = hall.cargo().rows;
     let mut row = hall.cargo().row_above(gap);
@@ -331,6 +342,7 @@ fn close_gap(hall: &Hall<MapCargo>, pass: &mut Pass<MapCargo>, cell: u64, row: u
     ensures part { Reworded cell (view pass.old).part (view pass.new).part }
     ensures closed { (m : PlainMap) → Table (cargo_of hall.now).rows (words_of (view pass.old).part cell) m → Table (cargo_of hall.now).rows (words_of (view pass.new).part cell) (without m (key_at (words_of (view pass.old).part cell) row)) }
     ensures moves { (clear : List ℕ) × WithRow (words_of (view pass.old).part cell) clear row 0 (key_at (words_of (view pass.old).part cell) row) (value_in (words_of (view pass.old).part cell) row) × (moves : List ℕ) × Closes (cargo_of hall.now).rows clear row moves (words_of (view pass.new).part cell) }
+    ensures inside { StaysInCell (cargo_of hall.now) cell (view pass.old) (view pass.new) }
 {
     set_word(hall, pass, cell, 3 * row + 1, 0);
     let mut gap = row;
@@ -355,6 +367,7 @@ pub fn del(hall: &Hall<MapCargo>, pass: &mut Pass<MapCargo>, cell: u64, key: u64
     ensures part { Reworded cell (view pass.old).part (view pass.new).part }
     ensures del { (m : PlainMap) → Means (words_of (view pass.old).part cell) m → MatchOption result ((m.value_at key ≡ None) × ((view pass.new).part ≡ (view pass.old).part)) (λ before. (m.value_at key ≡ Some before) × Means (words_of (view pass.new).part cell) (without m key)) }
     ensures moves { IfSome result (λ _. Removed (cargo_of hall.now).rows (words_of (view pass.old).part cell) (words_of (view pass.new).part cell) key) }
+    ensures inside { StaysInCell (cargo_of hall.now) cell (view pass.old) (view pass.new) }
 {
     match find(hall, pass, cell, key) {
         Search::Here(row) => {

@@ -42,7 +42,7 @@ pub(crate) struct Draws<K> {
 }
 
 impl<K: Line> Note<MapCargo> for Draws<K> {
-    ghost becomes = { λ found p q. Drew 0 p q found K.entry × (found < K.writes) };
+    ghost becomes = { λ ws found p q. Drew 0 p q found K.entry × (found < K.writes) };
 }
 
 pub(crate) struct Logs<K> {
@@ -50,7 +50,7 @@ pub(crate) struct Logs<K> {
 }
 
 impl<K: Line> Note<MapCargo> for Logs<K> {
-    ghost becomes = { λ found p q. q ≡ logged p (K.index + 1) };
+    ghost becomes = { λ ws found p q. q ≡ logged p (K.index + 1) };
 }
 
 pub(crate) struct Places<K> {
@@ -58,7 +58,7 @@ pub(crate) struct Places<K> {
 }
 
 impl<K: Line> Note<MapCargo> for Places<K> {
-    ghost becomes = { λ found p q. (q ≡ placed p found K.entry) × (p.seen ≤ found) × (found ≤ K.writes) };
+    ghost becomes = { λ ws found p q. (q ≡ placed p found K.entry) × (p.seen ≤ found) × (found ≤ K.writes) };
 }
 
 /// The pass can draw no more writes.

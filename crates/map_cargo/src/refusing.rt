@@ -30,7 +30,7 @@ pub(crate) struct Tells<K> {
 }
 
 impl<K: Refusal> Note<MapCargo> for Tells<K> {
-    ghost becomes = { λ found p q. q ≡ told_too p K.told };
+    ghost becomes = { λ ws found p q. q ≡ told_too p K.told };
 }
 
 fn refuse_by<K: Refusal>(

@@ -2,7 +2,7 @@
 ghost use Rattle.std.specs.Prelude.{◌≡◌, ◌<◌, ◌≤◌, ◌+◌, ◌*◌, ◌^◌, ◌/◌, ℕ, Some, None, if◌then◌else◌, nat_lt};
 ghost use Rattle.map_cargo.specs.Cells.{word_count, number_place, width};
 ghost use Rattle.map_cargo.specs.History.{OneHistory, Learns, IsSettled, IsRested, first_part, split_part, joined_part};
-ghost use Rattle.map_cargo.specs.Laws.{starts, gain_keeps, raise_keeps, lower_keeps, split_keeps, join_keeps};
+ghost use Rattle.map_cargo.specs.Laws.{starts, gain_keeps, raise_keeps, lower_keeps, split_keeps, join_keeps, gains_settles, gains_leave};
 
 use crate::entry::Part;
 use crate::size::MapCargo;
@@ -48,6 +48,12 @@ impl CargoRule for MapCargo {
     ghost split_keeps = { split_keeps };
 
     ghost join_keeps = { join_keeps };
+
+    ghost gains_settles = { λ lock _ p q. gains_settles lock p q };
+
+    ghost gains_leave = { λ lock other _ p q. gains_leave lock other p q };
+
+    ghost lowered_leaves = { λ _ _ _ _ _ settled. settled };
 }
 
 impl MapCargo {

@@ -1,4 +1,4 @@
-use Rattle.std.proofs.Common.{arith, ℕ, List, sym, refl, subst}
+use Rattle.std.proofs.Common.{arith, ◌+◌, ◌*◌, ℕ, List, sym, refl, subst}
 use Rattle.hall.specs.Passes.{view, cargo_of}
 use Rattle.query_rules.specs.Maps.{without}
 use Rattle.map_cargo.specs.declared.entry.Part.{Part}
@@ -8,6 +8,7 @@ use Rattle.map_cargo.specs.StepLaws.{alike_then}
 use Rattle.map_cargo.proofs.Meaning.{at_none, then'}
 use Rattle.map_cargo.proofs.Stores.{cleared_row}
 use Rattle.map_cargo.proofs.Tables.{cleared, moved, spread_falls}
+use Rattle.map_cargo.proofs.Traces.{inside_then, store_inside}
 use Rattle.map_cargo.proofs.Walks.{moves_none, moves_more, moves_end}
 use Rattle.map_cargo.proofs.cells.close_gap.Goals as goal
 
@@ -19,6 +20,7 @@ loop-from-init c =
     let w : WithRow W W' row 0 (key_at W row) (value_in W row) = subst (λ (l : List ℕ). WithRow W l row 0 (key_at W row) (value_in W row)) (sym c.set_word.ensures.words) (cleared_row W row (omega arith)) in record {
       pass = c.set_word.ensures.pass.0;
       alike = c.set_word.ensures.pass.1;
+      inside = store_inside (cargo_of c.args.hall.now) k _ _ (3 * row + 1) 0 (omega arith) c.set_word.ensures.step;
       part = c.set_word.ensures.part;
       closing = λ m h. cleared n W W' m row (key_at W row) (key_at W row) (value_in W row) h c.requires.used refl w;
       moves = moves_none n W' row;
@@ -39,6 +41,7 @@ loop-from-preserved c =
     let i = c.loop-from.invariant in record {
       pass = c.move_row.ensures.pass.0;
       alike = alike_then _ _ _ (alike_then _ _ _ i.alike c.row_for.ensures.pass.1) c.move_row.ensures.pass.1;
+      inside = inside_then _ k _ _ _ (alike_then _ _ _ i.alike c.row_for.ensures.pass.1) (inside_then _ k _ _ _ i.alike i.inside c.row_for.ensures.inside) c.move_row.ensures.inside;
       part = then' k _ _ _ i.part (subst (λ (p : Part). Rattle.map_cargo.specs.Steps.Reworded k p (view c.move_row.new.pass).part) c.row_for.ensures.part c.move_row.ensures.part);
       closing = λ m h. moved n W W' gap from (without m (key_at W0 c.args.row)) (i.closing m h) c.in-Some.ensures.row.may moves;
       moves = moves_more n (words_of (view c.set_word.new.pass).part k) c.args.row W gap from W' i.moves c.in-Some.ensures.row moves;
@@ -56,3 +59,6 @@ returns-clause-moves c =
     let passed : Passed n left gap = at_none (Passed n left gap) (λ from. IsNext n left gap from) c.row_for.result c.in_default.is c.row_for.ensures.row in
     let t = moves_end n clear row left gap c.loop-from.invariant.moves passed in
     (clear, w, t.0, subst (λ (p : Part). Closes n clear row t.0 (words_of p k)) (sym c.row_for.ensures.part) t.1)
+
+pub returns-clause-inside : goal.returns-clause-inside
+returns-clause-inside c = inside_then _ _ _ _ _ c.loop-from.invariant.alike c.loop-from.invariant.inside c.row_for.ensures.inside

@@ -1,6 +1,7 @@
-use Rattle.std.proofs.Common.{arith, ◌≡◌, ◌<◌, ℕ, List, sym, ap, ◌∙◌, subst, get_or, set, ◌-◌}
+use Rattle.std.proofs.Common.{arith, ◌≡◌, ◌<◌, ◌+◌, ◌*◌, ℕ, List, sym, ap, ◌∙◌, subst, get_or, set, ◌-◌}
 use Rattle.hall.specs.Passes.{view, cargo_of}
 use Rattle.query_rules.specs.Maps.{PlainMap, without}
+use Rattle.map_cargo.specs.declared.size.MapCargo.{MapCargo}
 use Rattle.map_cargo.specs.declared.entry.Part.{Part}
 use Rattle.map_cargo.specs.History.{words_of}
 use Rattle.map_cargo.specs.Rows.{value_in, key_at, Table, WithRow, Closes}
@@ -8,6 +9,7 @@ use Rattle.map_cargo.specs.StepLaws.{alike_then}
 use Rattle.map_cargo.proofs.Meaning.{del_old}
 use Rattle.map_cargo.proofs.Stores.{table_of}
 use Rattle.map_cargo.proofs.Tables.{absent, nowhere, some_count}
+use Rattle.map_cargo.proofs.Traces.{within_then, load_inside, store_inside}
 use Rattle.map_cargo.proofs.cells.del.Goals as goal
 
 pub overflow_sub-count : goal.overflow_sub-count
@@ -63,3 +65,14 @@ returns-in-Here-clause-moves c =
       closes = t.3;
       counted = c.set_word.ensures.words ∙ ap (λ (x : ℕ). set left 0 (x - 1)) (c.word-count.ensures.word ∙ ap (λ (p : Part). get_or (words_of p k) 0 0) same);
     }
+
+pub returns-in-Here-clause-inside : goal.returns-in-Here-clause-inside
+returns-in-Here-clause-inside c =
+    let K : MapCargo = cargo_of c.args.hall.now in let cell : ℕ = c.args.cell in let row : ℕ = c.in-Here.row in let low : row < K.rows = c.in-Here.ensures.ends.0.below in
+    (within_then K cell _ _ _
+    (within_then K cell _ _ _
+    (within_then K cell _ _ _
+    (within_then K cell _ _ _ (c.find.ensures.pass.1, c.find.ensures.inside) (c.word-before.ensures.pass.1, load_inside K cell _ _ (3 * row + 3) _ (omega arith) c.word-before.ensures.step))
+    (c.word-count.ensures.pass.1, load_inside K cell _ _ 0 _ (omega arith) c.word-count.ensures.step))
+    (c.close_gap.ensures.pass.1, c.close_gap.ensures.inside))
+    (c.set_word.ensures.pass.1, store_inside K cell _ _ 0 _ (omega arith) c.set_word.ensures.step)).1

@@ -7,7 +7,7 @@ use Rattle.map_cargo.specs.History.{words_of}
 use Rattle.map_cargo.specs.Rows.{home, way, row_above, used_at, key_at, IsUsed}
 use Rattle.map_cargo.specs.StepLaws.{alike_none, alike_then}
 use Rattle.map_cargo.proofs.Stores.{used_if, table_of}
-use Rattle.map_cargo.proofs.Traces.{Goes, goes_first, goes_more, at_free, at_key, at_end}
+use Rattle.map_cargo.proofs.Traces.{Goes, goes_first, goes_more, at_free, at_key, at_end, inside_none, inside_then, load_inside}
 use Rattle.map_cargo.proofs.Walks.{at_row, begins, goes_on, looked_none, looked_more}
 use Rattle.map_cargo.proofs.Ways.{home_below}
 use Rattle.map_cargo.proofs.cells.find.Goals as goal
@@ -18,6 +18,7 @@ loop-walked-init c =
     let low : c.home-row.result < n = subst (λ (z : MapCargo). c.home-row.result < z.rows) same c.home-row.ensures.low in record {
       pass = c.requires.pass;
       alike = alike_none _;
+      inside = inside_none _ _ _;
       part = refl;
       all = ap (λ (z : MapCargo). z.rows) c.cargo.ensures;
       below = low;
@@ -63,9 +64,11 @@ loop-walked-preserved c =
     let at : way n (home n key) row ≡ w = at_row n (home n key) row w i.place (omega arith) in
     let above : c.row_above-row.result ≡ row_above (cargo_of c.args.hall.now).rows row = c.row_above-row.ensures.is ∙ ap (λ (z : MapCargo). row_above z.rows row) c.cargo-in-loop-walked.ensures in
     let above' : c.row_above-row.result ≡ row_above n row = above ∙ ap (λ (k : ℕ). row_above k row) (sym i.all) in
+    let K : MapCargo = cargo_of c.args.hall.now in let cell : ℕ = c.args.cell in let low : row < K.rows = subst (λ (k : ℕ). row < k) i.all i.below in
     let like = alike_then _ _ _ i.alike c.word.ensures.pass.1 in record {
       pass = c.word-in-loop-walked.ensures.pass.0;
       alike = alike_then _ _ _ like c.word-in-loop-walked.ensures.pass.1;
+      inside = inside_then K cell _ _ _ like (inside_then K cell _ _ _ i.alike i.inside (load_inside K cell _ _ (3 * row + 1) _ (omega arith) c.word.ensures.step)) (load_inside K cell _ _ (3 * row + 2) _ (omega arith) c.word-in-loop-walked.ensures.step);
       part = c.word-in-loop-walked.ensures.part ∙ c.word.ensures.part ∙ i.part;
       all = i.all;
       below = subst (λ (k : ℕ). c.row_above-row.result < k) (ap (λ (z : MapCargo). z.rows) c.cargo-in-loop-walked.ensures ∙ sym i.all) c.row_above-row.ensures.low;
@@ -79,3 +82,13 @@ loop-walked-preserved c =
 
 pub returns-clause-loads : goal.returns-clause-loads
 returns-clause-loads c = let test = c.loop-walked-test.false in at_end (cargo_of c.args.hall.now) (view c.args.pass.now) c.args.cell c.args.key c.loop-walked.row (c.cargo.result.now.rows - c.loop-walked.walked) (view c.loop-walked.pass) (omega arith) c.loop-walked.invariant.goes
+
+pub returns-then-word-eq0-clause-inside : goal.returns-then-word-eq0-clause-inside
+returns-then-word-eq0-clause-inside c =
+    let i = c.loop-walked.invariant in let K : MapCargo = cargo_of c.args.hall.now in let row : ℕ = c.loop-walked.row in let low : row < K.rows = subst (λ (k : ℕ). row < k) i.all i.below in
+    inside_then K c.args.cell _ _ _ i.alike i.inside (load_inside K c.args.cell _ _ (3 * row + 1) _ (omega arith) c.word.ensures.step)
+
+pub returns-then-word-key-clause-inside : goal.returns-then-word-key-clause-inside
+returns-then-word-key-clause-inside c =
+    let i = c.loop-walked.invariant in let K : MapCargo = cargo_of c.args.hall.now in let cell : ℕ = c.args.cell in let row : ℕ = c.loop-walked.row in let low : row < K.rows = subst (λ (k : ℕ). row < k) i.all i.below in
+    inside_then K cell _ _ _ (alike_then _ _ _ i.alike c.word.ensures.pass.1) (inside_then K cell _ _ _ i.alike i.inside (load_inside K cell _ _ (3 * row + 1) _ (omega arith) c.word.ensures.step)) (load_inside K cell _ _ (3 * row + 2) _ (omega arith) c.word-in-loop-walked.ensures.step)

@@ -2,6 +2,7 @@ use Rattle.std.proofs.Common.{◌-◌, ◌≡◌, ◌<◌, ◌≤◌, ◌⊎◌,
 use Rattle.hall.specs.Passes.{view, IsPassOf, cargo_of}
 use Rattle.map_cargo.specs.Cells.{width}
 use Rattle.map_cargo.specs.History.{words_of}
+use Rattle.map_cargo.specs.Probes.{StaysInCell}
 use Rattle.map_cargo.specs.Rows.{home, way, LookedAt}
 use Rattle.map_cargo.specs.Steps.{Alike}
 use Rattle.map_cargo.proofs.Traces.{Goes}
@@ -11,6 +12,7 @@ abbrev pub invariant-loop-walked : goal.invariant-loop-walked
 invariant-loop-walked l = record {
   pass : IsPassOf l.fn.hall l.pass;
   alike : Alike (view l.fn.pass) (view l.pass);
+  inside : StaysInCell (cargo_of l.fn.hall) l.fn.cell (view l.fn.pass) (view l.pass);
   part : (view l.pass).part ≡ (view l.fn.pass).part;
   all : l.rows ≡ (cargo_of l.fn.hall).rows;
   below : l.row < l.rows;

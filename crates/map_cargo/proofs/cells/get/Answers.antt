@@ -1,11 +1,12 @@
-use Rattle.std.proofs.Common.{ℕ, List, sym, ap, ◌∙◌, Some}
+use Rattle.std.proofs.Common.{arith, ◌<◌, ◌+◌, ◌*◌, ℕ, List, sym, ap, ◌∙◌, Some}
 use Rattle.hall.specs.Passes.{view, cargo_of}
+use Rattle.map_cargo.specs.declared.size.MapCargo.{MapCargo}
 use Rattle.map_cargo.specs.declared.entry.Part.{Part}
 use Rattle.map_cargo.specs.History.{words_of}
 use Rattle.map_cargo.specs.Rows.{value_in}
 use Rattle.map_cargo.proofs.Stores.{table_of}
 use Rattle.map_cargo.proofs.Tables.{absent, found, nowhere}
-use Rattle.map_cargo.proofs.Traces.{with_load}
+use Rattle.map_cargo.proofs.Traces.{with_load, inside_then, load_inside}
 use Rattle.map_cargo.proofs.cells.get.Goals as goal
 
 pub returns-in-Here-clause-got : goal.returns-in-Here-clause-got
@@ -26,3 +27,8 @@ pub returns-in-Nowhere-clause-got : goal.returns-in-Nowhere-clause-got
 returns-in-Nowhere-clause-got c m h =
     let n : ℕ = (cargo_of c.args.hall.now).rows in let W : List ℕ = words_of (view c.args.pass.now).part c.args.cell in
     sym (nowhere n W m c.args.key (table_of n W m c.find.ensures.length h).holds c.in-Nowhere.ensures.ends).0
+
+pub returns-in-Here-clause-inside : goal.returns-in-Here-clause-inside
+returns-in-Here-clause-inside c =
+    let K : MapCargo = cargo_of c.args.hall.now in let row : ℕ = c.in-Here.row in let low : row < K.rows = c.in-Here.ensures.ends.0.below in
+    inside_then K c.args.cell _ _ _ c.find.ensures.pass.1 c.find.ensures.inside (load_inside K c.args.cell _ _ (3 * row + 3) _ (omega arith) c.word.ensures.step)

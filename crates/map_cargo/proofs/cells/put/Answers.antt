@@ -8,6 +8,7 @@ use Rattle.map_cargo.specs.StepLaws.{alike_then}
 use Rattle.map_cargo.proofs.Meaning.{put_old, put_new}
 use Rattle.map_cargo.proofs.Stores.{table_of}
 use Rattle.map_cargo.proofs.Tables.{has_room, nowhere}
+use Rattle.map_cargo.proofs.Traces.{within_then, load_inside, store_inside}
 use Rattle.map_cargo.proofs.cells.put.Goals as goal
 
 pub overflow_add-count : goal.overflow_add-count
@@ -43,3 +44,19 @@ returns-in-Nowhere-clause-put c m h =
     let n : ℕ = (cargo_of c.args.hall.now).rows in let W : List ℕ = words_of (view c.args.pass.now).part c.args.cell in
     let t = nowhere n W m c.args.key (table_of n W m c.find.ensures.length h).holds c.in-Nowhere.ensures.ends in
     (ap (λ (z : MapCargo). z.rows) c.cargo.ensures, t.0, t.1, c.find.ensures.part)
+
+pub returns-in-Here-clause-inside : goal.returns-in-Here-clause-inside
+returns-in-Here-clause-inside c =
+    let K : MapCargo = cargo_of c.args.hall.now in let cell : ℕ = c.args.cell in let row : ℕ = c.in-Here.row in let low : row < K.rows = c.in-Here.ensures.ends.0.below in
+    (within_then K cell _ _ _
+    (within_then K cell _ _ _ (c.find.ensures.pass.1, c.find.ensures.inside) (c.word-before.ensures.pass.1, load_inside K cell _ _ (3 * row + 3) _ (omega arith) c.word-before.ensures.step))
+    (c.set_word.ensures.pass.1, store_inside K cell _ _ (3 * row + 3) _ (omega arith) c.set_word.ensures.step)).1
+
+pub returns-in-Free-clause-inside : goal.returns-in-Free-clause-inside
+returns-in-Free-clause-inside c =
+    let K : MapCargo = cargo_of c.args.hall.now in let cell : ℕ = c.args.cell in
+    (within_then K cell _ _ _
+    (within_then K cell _ _ _
+    (within_then K cell _ _ _ (c.find.ensures.pass.1, c.find.ensures.inside) (c.word-count.ensures.pass.1, load_inside K cell _ _ 0 _ (omega arith) c.word-count.ensures.step))
+    (c.set_row.ensures.pass.1, c.set_row.ensures.inside))
+    (c.set_word-in-Free.ensures.pass.1, store_inside K cell _ _ 0 _ (omega arith) c.set_word-in-Free.ensures.step)).1

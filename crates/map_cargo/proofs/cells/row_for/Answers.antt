@@ -1,4 +1,4 @@
-use Rattle.std.proofs.Common.{arith, ◌≡◌, ◌<◌, ◌≤◌, ℕ, List, sym, refl, ap, ◌∙◌, subst, ⊎_elim, inl, inr}
+use Rattle.std.proofs.Common.{arith, ◌≡◌, ◌<◌, ◌≤◌, ◌+◌, ◌*◌, ℕ, List, sym, refl, ap, ◌∙◌, subst, ⊎_elim, inl, inr}
 use Rattle.hall.specs.Passes.{view, cargo_of}
 use Rattle.map_cargo.specs.declared.size.MapCargo.{MapCargo}
 use Rattle.map_cargo.specs.declared.entry.Part.{Part}
@@ -6,6 +6,7 @@ use Rattle.map_cargo.specs.History.{words_of}
 use Rattle.map_cargo.specs.Rows.{home, way, row_above, used_at, key_at, IsUsed, IsFree, Closing, Passed, Kept, IsNext}
 use Rattle.map_cargo.specs.StepLaws.{alike_none, alike_then}
 use Rattle.map_cargo.proofs.Stores.{used_if}
+use Rattle.map_cargo.proofs.Traces.{inside_none, inside_then, load_inside}
 use Rattle.map_cargo.proofs.Walks.{at_row, goes_on, steps_off, kept_none, kept_more, off_gap, passed_at_end, passed_round}
 use Rattle.map_cargo.proofs.cells.row_for.Goals as goal
 
@@ -17,6 +18,7 @@ loop-distance-init c =
     let above : c.row_above-row.result ≡ row_above n c.args.gap = c.row_above-row.ensures.is ∙ ap (λ (z : MapCargo). row_above z.rows c.args.gap) same in record {
       pass = c.requires.pass;
       alike = alike_none _;
+      inside = inside_none _ _ _;
       part = refl;
       all = all;
       below = subst (λ (z : MapCargo). c.row_above-row.result < z.rows) same c.row_above-row.ensures.low;
@@ -55,9 +57,11 @@ loop-distance-preserved c =
     let to_row : c.way-in-loop-distance.result ≡ way n (home n (key_at W row)) row = c.way-in-loop-distance.ensures ∙ ap (λ (z : MapCargo). way z.rows c.home-home.result row) c.cargo-in-loop-distance-3.ensures ∙ ap (λ (k : ℕ). way k c.home-home.result row) (sym i.all) ∙ ap (λ (k : ℕ). way n k row) start in
     let over : way n (home n (key_at W row)) row ≤ way n (home n (key_at W row)) gap = (let no = c.if-way.false in omega arith) in
     let above : c.row_above-row-in-loop-distance.result ≡ row_above n row = c.row_above-row-in-loop-distance.ensures.is ∙ ap (λ (z : MapCargo). row_above z.rows row) c.cargo-in-loop-distance-4.ensures ∙ ap (λ (k : ℕ). row_above k row) (sym i.all) in
+    let K : MapCargo = cargo_of c.args.hall.now in let cell : ℕ = c.args.cell in let low : row < K.rows = subst (λ (k : ℕ). row < k) i.all i.below in
     let test = c.loop-distance-test.true in record {
       pass = c.word-in-loop-distance.ensures.pass.0;
       alike = alike_then _ _ _ (alike_then _ _ _ i.alike c.word.ensures.pass.1) c.word-in-loop-distance.ensures.pass.1;
+      inside = inside_then K cell _ _ _ (alike_then _ _ _ i.alike c.word.ensures.pass.1) (inside_then K cell _ _ _ i.alike i.inside (load_inside K cell _ _ (3 * row + 1) _ (omega arith) c.word.ensures.step)) (load_inside K cell _ _ (3 * row + 2) _ (omega arith) c.word-in-loop-distance.ensures.step);
       part = c.word-in-loop-distance.ensures.part ∙ c.word.ensures.part ∙ i.part;
       all = i.all;
       below = subst (λ (k : ℕ). c.row_above-row-in-loop-distance.result < k) (ap (λ (z : MapCargo). z.rows) c.cargo-in-loop-distance-4.ensures ∙ sym i.all) c.row_above-row-in-loop-distance.ensures.low;
@@ -91,3 +95,13 @@ returns-then-way-clause-row c =
       may = record { used = used_if n W m row c.word.result h.holds i.below one c.if-word-eq0.false; on_way = omega arith };
       first = subst (λ (d : ℕ). Kept n W gap d) (sym at) i.kept;
     }
+
+pub returns-then-word-eq0-clause-inside : goal.returns-then-word-eq0-clause-inside
+returns-then-word-eq0-clause-inside c =
+    let i = c.loop-distance.invariant in let K : MapCargo = cargo_of c.args.hall.now in let row : ℕ = c.loop-distance.row in let low : row < K.rows = subst (λ (k : ℕ). row < k) i.all i.below in
+    inside_then K c.args.cell _ _ _ i.alike i.inside (load_inside K c.args.cell _ _ (3 * row + 1) _ (omega arith) c.word.ensures.step)
+
+pub returns-then-way-clause-inside : goal.returns-then-way-clause-inside
+returns-then-way-clause-inside c =
+    let i = c.loop-distance.invariant in let K : MapCargo = cargo_of c.args.hall.now in let cell : ℕ = c.args.cell in let row : ℕ = c.loop-distance.row in let low : row < K.rows = subst (λ (k : ℕ). row < k) i.all i.below in
+    inside_then K cell _ _ _ (alike_then _ _ _ i.alike c.word.ensures.pass.1) (inside_then K cell _ _ _ i.alike i.inside (load_inside K cell _ _ (3 * row + 1) _ (omega arith) c.word.ensures.step)) (load_inside K cell _ _ (3 * row + 2) _ (omega arith) c.word-in-loop-distance.ensures.step)

@@ -14,4 +14,4 @@ load_cargo-requires-clause-note g c κs within = reads _ _ c.args.cell c.args.in
 pub returns-clause-pass : goal.returns-clause-pass
 returns-clause-pass g c =
     let step = c.load_cargo.ensures.step in
-    (c.load_cargo.ensures.pass.0, noted_alike (view c.args.pass.now) (view c.load_cargo.new.pass) LoadCargo _ c.load_cargo.result false step.0 step.2)
+    (c.load_cargo.ensures.pass.0, noted_alike (view c.args.pass.now) (view c.load_cargo.new.pass) LoadCargo _ c.load_cargo.result false step.1 step.3)

@@ -14,4 +14,4 @@ add_cargo-requires-clause-note g c κs within = let may = c.requires.may in draw
 pub returns-clause-pass : goal.returns-clause-pass
 returns-clause-pass g c =
     let step = c.add_cargo.ensures.step in
-    (c.add_cargo.ensures.pass.0, noted_stays (view c.args.pass.now) (view c.add_cargo.new.pass) AddCargo _ c.add_cargo.result 1 true step.0 step.2)
+    (c.add_cargo.ensures.pass.0, noted_stays (view c.args.pass.now) (view c.add_cargo.new.pass) AddCargo _ c.add_cargo.result 1 true step.1 step.3)

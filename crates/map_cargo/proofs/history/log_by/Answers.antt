@@ -11,4 +11,4 @@ store_cargo-requires-clause-note g c κs within = logs _ _ _ _ c.args.number c.a
 pub returns-clause-pass : goal.returns-clause-pass
 returns-clause-pass g c =
     let step = c.store_cargo.ensures.step in
-    (c.store_cargo.ensures.pass.0, noted_alike (view c.args.pass.now) (view c.store_cargo.new.pass) StoreCargo _ c.args.value true step.1 step.3)
+    (c.store_cargo.ensures.pass.0, noted_alike (view c.args.pass.now) (view c.store_cargo.new.pass) StoreCargo _ c.args.value true step.2 step.4)

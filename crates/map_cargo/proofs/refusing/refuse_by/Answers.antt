@@ -10,9 +10,9 @@ load_noted-requires-clause-note g c κs within = let v = view c.args.pass.now in
 
 pub returns-clause-others : goal.returns-clause-others
 returns-clause-others g c = let v = view c.args.pass.now in let may = c.requires.may in
-    subst (λ (s : Shape). 1 < s.seats) c.requires.pass.1 (two_seats _ v (view c.load_noted.new.pass) c.args.cell _ _ c.load_noted.ensures.step.4 c.args.query.now c.args.reply.now may.near may.licence)
+    subst (λ (s : Shape). 1 < s.seats) c.requires.pass.1 (two_seats _ v (view c.load_noted.new.pass) c.args.cell _ _ c.load_noted.ensures.step.5 c.args.query.now c.args.reply.now may.near may.licence)
 
 pub returns-clause-pass : goal.returns-clause-pass
 returns-clause-pass g c =
     let step = c.load_noted.ensures.step in
-    (c.load_noted.ensures.pass.0, load_alike (view c.args.pass.now) (view c.load_noted.new.pass) c.args.cell _ step.0 (c.requires.may.away c.args.cell c.requires.cell) step.2)
+    (c.load_noted.ensures.pass.0, load_alike (view c.args.pass.now) (view c.load_noted.new.pass) c.args.cell _ step.1 (c.requires.may.away c.args.cell c.requires.cell) step.3)
