@@ -4,6 +4,7 @@ pub mod Jobs
 pub mod Moving
 pub mod Pairs
 pub mod Placing
+pub mod Quiet
 pub mod Refusing
 pub mod Replies
 pub mod Taking

@@ -16,8 +16,8 @@ use Rattle.shared_mutex.specs.Acquiring.{RefusesExclusive, RefusesShared}
 use Rattle.shared_mutex.specs.Refused.{AddsReads, reads_then}
 use Rattle.shared_mutex.specs.Tries.{AddsSteps, IsTry}
 use Rattle.shared_mutex.specs.TryLaws.{adds_as, adds_then}
-use Rattle.sync_cell.specs.Gains.{GainedBy, GainedInOrder, refuses_reader, refuses_writer}
-use Rattle.sync_cell.specs.GainLaws.{IsTrySuch, plain_tries, reader_raced, still_gained, still_in_order, tries_then, writer_raced}
+use Rattle.sync_cell.specs.Gains.{GainedBy, GainedInOrder, IsQuiet, refuses_reader, refuses_writer}
+use Rattle.sync_cell.specs.GainLaws.{IsTrySuch, gained_then, plain_tries, quiet_for_reader, quiet_for_writer, reader_raced, still_in_order, tries_then, writer_raced}
 use Rattle.query_rules.specs.declared.query.Query.{Query}
 use Rattle.query_rules.specs.declared.query.Query.TheVariants as query
 use Rattle.query_rules.specs.declared.query.Reply.{Reply}
@@ -68,23 +68,11 @@ refused_tried v u w q cell reply names takes away load =
     λ refused k has. subst (λ (i : ℕ). AddsSteps (IsTry v i) v w) (sym (is_one cell k (subst (λ (l : List ℕ). Has l k) takes has))) all
 
 -- ---- tries that were granted
-placed_more : (c : MapCargo) (v w : View Part) (q : Query) (reply : Reply) → is_job reply ≡ false → IsPlacedUnder c v w q reply → MoreSteps v w
-placed_more c v w q (Placed place said) maps h = record { added = h.newer ++ (h.step ∷ h.older); stand = h.stand ∙ sym (append_assoc h.newer (h.step ∷ h.older) v.steps) }
-placed_more c v w q Busy maps h = h
-placed_more c v w q (Late now) maps h = h
-placed_more c v w q (Job at result) maps h = absurd (cc)
+pub read_by_tries : (v u w : View Part) (cell key : ℕ) (reply : Reply) → AddsReads (λ shape number added. GainedBy (λ e. refuses_reader shape.policy e ≡ false) cell number added) v u → AddsSteps IsQuiet u w → GoesByTries (query.TryGet cell key) reply v w
+read_by_tries v u w cell key reply gained quiet = λ granted. gained_then (λ e. refuses_reader v.shape.policy e ≡ false) v u w cell gained (quiet_for_reader u w v.shape.policy quiet)
 
--- a reply that was told adds steps
-pub tells_more : (c : MapCargo) (v w : View Part) (index : ℕ) (q : Query) (reply : Reply) → Tells c v w index q reply → MoreSteps v w
-tells_more c v w index q reply h = placed_more c v w q reply h.of_maps h.placing
-
-pub read_by_tries : (v u w : View Part) (cell key : ℕ) (reply : Reply) → AddsReads (λ shape number added. GainedBy (λ e. refuses_reader shape.policy e ≡ false) cell number added) v u → MoreSteps u w → GoesByTries (query.TryGet cell key) reply v w
-read_by_tries v u w cell key reply gained more = λ granted.
-    reads_then (λ shape number added. GainedBy (λ e. refuses_reader shape.policy e ≡ false) cell number added) (λ shape number added steps. still_gained (λ e. refuses_reader shape.policy e ≡ false) cell number added steps) v u w gained (more.added, more.stand)
-
-pub wrote_by_tries : (v u w : View Part) (cell key value : ℕ) (reply : Reply) → AddsReads (λ shape number added. GainedBy (λ e. refuses_writer e ≡ false) cell number added) v u → MoreSteps u w → GoesByTries (query.TryPut cell key value) reply v w
-wrote_by_tries v u w cell key value reply gained more = λ granted.
-    reads_then (λ shape number added. GainedBy (λ e. refuses_writer e ≡ false) cell number added) (λ shape number added steps. still_gained (λ e. refuses_writer e ≡ false) cell number added steps) v u w gained (more.added, more.stand)
+pub wrote_by_tries : (v u w : View Part) (cell key value : ℕ) (reply : Reply) → AddsReads (λ shape number added. GainedBy (λ e. refuses_writer e ≡ false) cell number added) v u → AddsSteps IsQuiet u w → GoesByTries (query.TryPut cell key value) reply v w
+wrote_by_tries v u w cell key value reply gained quiet = λ granted. gained_then (λ e. refuses_writer e ≡ false) v u w cell gained (quiet_for_writer u w quiet)
 
 -- what was refused wasn't granted
 pub busy_ungranted : (reply : Reply) → reply ≡ Busy → is_granted reply ≡ true → ⊥

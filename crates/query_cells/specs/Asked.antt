@@ -136,7 +136,7 @@ IsForced q (Job at result) v w = Unit {0}
 abbrev pub OnlyTried : Query → Reply → View Part → View Part → Type 0
 OnlyTried q reply v w = is_granted reply ≡ false → (cell : ℕ) → Has (taken_cells q) cell → AddsSteps (IsTry v cell) v w
 
--- a query that tries gained its cell, where it was granted, before any of its steps had found a word for which it is refused busy
+-- a query that tries gained its cell, where it was granted, by tries of which none was refused busy: no step of the call found a word for which it is
 abbrev pub GoesByTries : Query → Reply → View Part → View Part → Type 0
 GoesByTries (TryGet cell key) reply v w = is_granted reply ≡ true → AddsReads (λ shape number added. GainedBy (λ e. refuses_reader shape.policy e ≡ false) cell number added) v w
 GoesByTries (TryPut cell key value) reply v w = is_granted reply ≡ true → AddsReads (λ shape number added. GainedBy (λ e. refuses_writer e ≡ false) cell number added) v w

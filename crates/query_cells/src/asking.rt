@@ -27,14 +27,15 @@ use std::sync::Wait;
 /// `index` of their caller, and answers its one reply.
 ///
 /// The maps' queries take their cells by waiting, in the mode that they need: `get`, `len` and `both` for reading; `put`,
-/// `del`, `add`, `cas`, `putlen` and `move` for writing. Two cells are taken one after the other, the lower number first,
-/// and two that are the same one aren't taken: the lower one is held before the higher one is tried for. `tryget` and
-/// `tryput` try, again where another pass came between, and are `Busy` at the first word that conflicts: where they were
-/// granted, no try of theirs had found one. `getby` and `putby` wait until the clock told the deadline or later, and are
-/// then `Late`. They ask the clock once after each refused try, and each of its answers was below the deadline but the
-/// last one of `Late`; no other query asks it. `Busy` and `Late` come only with words of the cell that this call read and
-/// for which its lock refuses, so in a hall with one seat no query is refused. A refused query never held its cell: each
-/// step of its call was for that cell's lock, made with no mode held there.
+/// `del`, `add`, `cas`, `putlen` and `move` for writing. Two cells are taken one after the other: the one of the lower
+/// number is held before the other is tried for. Two that are the same one aren't taken.
+///
+/// `tryget` and `tryput` try, again where another pass came between, and are `Busy` at the first word that conflicts:
+/// where they were granted, no try of theirs had found one. `getby` and `putby` wait until the clock told the deadline or
+/// later, and are then `Late`. They ask the clock once after each refused try, and each of its answers was below the
+/// deadline but the last one of `Late`; no other query asks it. `Busy` and `Late` come only with words of the cell that
+/// this call read and for which its lock refuses, so in a hall with one seat no query is refused. A refused query never
+/// held its cell: each step of its call was for that cell's lock, made with no mode held there.
 ///
 /// A placed reply is told while its cells are held, and the pass has one write less to draw where it is one. A refused one
 /// is told without a place. `give`, `take` and `audit` are jobs of the ledger and leave the hall's pass as it was: the

@@ -7,6 +7,8 @@ ghost use Rattle.query_rules.specs.declared.query.Query.{Query};
 ghost use Rattle.query_rules.specs.Maps.{reply_of};
 ghost use Rattle.map_cargo.specs.History.{plain_of, IsSettled};
 ghost use Rattle.map_cargo.specs.Steps.{Suits, Alike, Reworded};
+ghost use Rattle.shared_mutex.specs.Tries.{AddsSteps};
+ghost use Rattle.sync_cell.specs.Gains.{IsQuiet};
 ghost use Rattle.query_cells.specs.Answers.{Leaves};
 
 use hall::{Hall, Pass};
@@ -14,6 +16,7 @@ use map_cargo::{MapCargo, del, get, len, put};
 use query_rules::Said;
 
 /// Gives a key this value.
+#[tactic(auto, using(crate::proofs::Quiet::quiet_inside))]
 pub(crate) fn store(
     hall: &Hall<MapCargo>,
     pass: &mut Pass<MapCargo>,
@@ -30,6 +33,7 @@ pub(crate) fn store(
     ensures part { Reworded cell (view pass.old).part (view pass.new).part }
     ensures says { reply_of (cargo_of hall.now).rows (plain_of (view pass.old).part) (Query.Put cell key value) ≡ Some result }
     ensures leaves { Leaves cell (view pass.old) (view pass.new) (Query.Put cell key value) result }
+    ensures quiet { AddsSteps IsQuiet (view pass.old) (view pass.new) }
 {
     match put(hall, pass, cell, key, value) {
         Ok(Some(old)) => Said::Old(old),

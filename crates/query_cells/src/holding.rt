@@ -6,7 +6,8 @@ ghost use Rattle.hall.specs.Views.{standing};
 ghost use Rattle.hall.specs.declared.view.Standing.TheVariants.{Away, Inline, Exclusive};
 ghost use Rattle.shared_mutex.specs.Acquiring.{ElsewhereSame};
 ghost use Rattle.shared_mutex.specs.Refused.{AddsReads};
-ghost use Rattle.sync_cell.specs.Gains.{AnyStep, GainedBy};
+ghost use Rattle.shared_mutex.specs.Tries.{AddsSteps};
+ghost use Rattle.sync_cell.specs.Gains.{AnyStep, GainedBy, IsQuiet};
 ghost use Rattle.map_cargo.specs.History.{IsSettled};
 ghost use Rattle.map_cargo.specs.Steps.{Gained, Left};
 ghost use Rattle.query_cells.specs.Answers.{LeadsBack};
@@ -68,6 +69,7 @@ pub(crate) fn leave_reading(hall: &Hall<MapCargo>, pass: &mut Pass<MapCargo>, pt
     ensures left { Left (view pass.old) (view pass.new) }
     ensures back { LeadsBack (cargo_of hall.now) (view pass.old) (view pass.new) }
     ensures trail { Treads (IsWeakAt ptr.guard.lock) (view pass.old) (view pass.new) }
+    ensures quiet { AddsSteps IsQuiet (view pass.old) (view pass.new) }
 {
     unlock_read(hall, pass, ptr);
 }
@@ -85,6 +87,7 @@ pub(crate) fn leave_writing(hall: &Hall<MapCargo>, pass: &mut Pass<MapCargo>, pt
     ensures left { Left (view pass.old) (view pass.new) }
     ensures back { LeadsBack (cargo_of hall.now) (view pass.old) (view pass.new) }
     ensures trail { Treads (IsAt ptr.guard.lock) (view pass.old) (view pass.new) }
+    ensures quiet { AddsSteps IsQuiet (view pass.old) (view pass.new) }
 {
     unlock_write(hall, pass, ptr);
 }

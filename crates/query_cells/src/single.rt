@@ -8,6 +8,8 @@ ghost use Rattle.query_rules.specs.declared.query.Query.{Query};
 ghost use Rattle.query_rules.specs.Maps.{get_says};
 ghost use Rattle.map_cargo.specs.History.{plain_of, IsSettled, IsRested};
 ghost use Rattle.map_cargo.specs.Steps.{Suits, Alike, IsIdle};
+ghost use Rattle.shared_mutex.specs.Tries.{AddsSteps};
+ghost use Rattle.sync_cell.specs.Gains.{IsQuiet};
 ghost use Rattle.query_cells.specs.Asked.{is_granted};
 ghost use Rattle.query_cells.specs.Answers.{AsksValue, AsksPut, OnlyAt, Tells};
 
@@ -21,6 +23,7 @@ use std::sync::Wait;
 use sync_cell::{ReadPtr, WritePtr};
 
 // What is said of a key's value in a cell that the pass holds.
+#[tactic(auto, using(crate::proofs::Quiet::quiet_inside))]
 fn look_up(hall: &Hall<MapCargo>, pass: &mut Pass<MapCargo>, cell: u64, key: u64) -> Said
     requires pass { IsPassOf hall.now pass.old }
     requires suits { Suits hall.now }
@@ -29,6 +32,7 @@ fn look_up(hall: &Hall<MapCargo>, pass: &mut Pass<MapCargo>, cell: u64, key: u64
     requires settled { IsSettled cell (view pass.old).part }
     ensures pass { IsPassOf hall.now pass.new × Alike (view pass.old) (view pass.new) }
     ensures part { (view pass.new).part ≡ (view pass.old).part }
+    ensures quiet { AddsSteps IsQuiet (view pass.old) (view pass.new) }
     ensures said { result ≡ get_says ((plain_of (view pass.old).part cell).value_at key) }
 {
     match get(hall, pass, cell, key) {
@@ -59,6 +63,7 @@ pub(crate) fn answer_value(
     ensures tells { Tells (cargo_of hall.now) (view pass.old) (view pass.new) index query.now result }
     ensures granted { is_granted result ≡ true }
     ensures trail { Treads (IsWeakAt ptr.guard.lock) (view pass.old) (view pass.new) }
+    ensures quiet { AddsSteps IsQuiet (view pass.old) (view pass.new) }
 {
     let said = look_up(hall, pass, ptr.cell(), key);
     answer_read(hall, pass, ptr, index, query, said)
@@ -88,6 +93,7 @@ pub(crate) fn answer_put(
     ensures tells { Tells (cargo_of hall.now) (view pass.old) (view pass.new) index query.now result }
     ensures granted { is_granted result ≡ true }
     ensures trail { Treads (IsAt ptr.guard.lock) (view pass.old) (view pass.new) }
+    ensures quiet { AddsSteps IsQuiet (view pass.old) (view pass.new) }
 {
     let said = store(hall, pass, ptr.cell(), key, value);
     answer(hall, pass, ptr, index, query, said)

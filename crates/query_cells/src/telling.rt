@@ -10,6 +10,8 @@ ghost use Rattle.query_rules.specs.Maps.{reply_of};
 ghost use Rattle.map_cargo.specs.Entries.{named_cells, spoken_cells};
 ghost use Rattle.map_cargo.specs.History.{plain_of, IsRested};
 ghost use Rattle.map_cargo.specs.Steps.{Suits, Stays, Alike, IsIdle, MayDraw, MayPlace};
+ghost use Rattle.shared_mutex.specs.Tries.{AddsSteps};
+ghost use Rattle.sync_cell.specs.Gains.{IsQuiet};
 ghost use Rattle.query_cells.specs.Asked.{entry_for, is_granted};
 ghost use Rattle.query_cells.specs.Placing.{mode_for};
 ghost use Rattle.query_cells.specs.Answers.{Follows, HoldsFor, MayTell, OnlyAt, Stored, Tells};
@@ -62,6 +64,7 @@ pub(crate) fn tell_read(
     ensures tells { Tells (cargo_of hall.now) (view pass.old) (view pass.new) index query.now result }
     ensures granted { is_granted result ≡ true }
     ensures follows { Follows (view pass.old) (view pass.new) query.now said }
+    ensures quiet { AddsSteps IsQuiet (view pass.old) (view pass.new) }
 {
     let entry = Entry {
         caller: pass.number(),
@@ -94,6 +97,7 @@ fn tell_write(
     ensures tells { Tells (cargo_of hall.now) (view pass.old) (view pass.new) index query.now result }
     ensures granted { is_granted result ≡ true }
     ensures follows { Follows (view pass.old) (view pass.new) query.now said }
+    ensures quiet { AddsSteps IsQuiet (view pass.old) (view pass.new) }
 {
     let entry = Entry {
         caller: pass.number(),
@@ -127,6 +131,7 @@ pub(crate) fn tell(
     ensures tells { Tells (cargo_of hall.now) (view pass.old) (view pass.new) index query.now result }
     ensures granted { is_granted result ≡ true }
     ensures follows { Follows (view pass.old) (view pass.new) query.now said }
+    ensures quiet { AddsSteps IsQuiet (view pass.old) (view pass.new) }
 {
     if is_write(said) {
         tell_write(hall, pass, index, query, said)
@@ -158,6 +163,7 @@ pub(crate) fn answer_read(
     ensures tells { Tells (cargo_of hall.now) (view pass.old) (view pass.new) index query.now result }
     ensures granted { is_granted result ≡ true }
     ensures trail { Treads (IsWeakAt ptr.guard.lock) (view pass.old) (view pass.new) }
+    ensures quiet { AddsSteps IsQuiet (view pass.old) (view pass.new) }
 {
     let reply = tell_read(hall, pass, index, query, said);
     leave_reading(hall, pass, ptr);
@@ -187,6 +193,7 @@ pub(crate) fn answer(
     ensures tells { Tells (cargo_of hall.now) (view pass.old) (view pass.new) index query.now result }
     ensures granted { is_granted result ≡ true }
     ensures trail { Treads (IsAt ptr.guard.lock) (view pass.old) (view pass.new) }
+    ensures quiet { AddsSteps IsQuiet (view pass.old) (view pass.new) }
 {
     let reply = tell(hall, pass, index, query, said);
     leave_writing(hall, pass, ptr);

@@ -2,7 +2,7 @@
 use Rattle.std.specs.Prelude.{◌≡◌, ℕ, ◌&&◌, ◌||◌, not, Bool, true, false, List, [], ◌∷◌, ◌++◌, All, None}
 use Rattle.std.proofs.Common.{refl, sym, ap, ◌∙◌, subst, ⊎_elim, append_assoc}
 use Rattle.std.proofs.lemmas.List.{append_cancel_right}
-use Rattle.std.proofs.lemmas.List.Elements.{All-nil, All-cons}
+use Rattle.std.proofs.lemmas.List.Elements.{All-append, All-nil, All-cons}
 use Rattle.hall.specs.declared.cargo.CargoRule.{Ghosts}
 use Rattle.hall.specs.declared.guards.TryFault.{TryFault}
 use Rattle.hall.specs.declared.guards.TryFault.TheVariants.{Busy, Raced}
@@ -13,7 +13,8 @@ use Rattle.hall.specs.declared.view.Standing.{Standing}
 use Rattle.hall.specs.declared.view.Standing.TheVariants.{Away, Announcing}
 use Rattle.hall.specs.declared.view.StepEntry.{StepEntry}
 use Rattle.hall.specs.declared.view.View.{View}
-use Rattle.hall.specs.Plays.{conflicts_for_announcing}
+use Rattle.lock_model.specs.declared.model.Policy.{Policy}
+use Rattle.hall.specs.Plays.{conflicts_for_announcing, conflicts_for_shared}
 use Rattle.hall.specs.Views.{after_look, after_step, entry_of, mode_of, standing}
 use Rattle.apply_deferred.specs.Sweeping.{Sweeps}
 use Rattle.apply_deferred.specs.SweepLaws.{AllSweeping, is_sweeping, same_mode, sweep_goes}
@@ -22,7 +23,7 @@ use Rattle.shared_mutex.specs.Refused.{AddsReads, MadeMore}
 use Rattle.shared_mutex.specs.Tries.{AddsSteps, IsTry}
 use Rattle.shared_mutex.specs.TryLaws.{adds_as, adds_none, adds_then}
 use Rattle.sync_cell.specs.Attempts.{is_hold, is_load}
-use Rattle.sync_cell.specs.Gains.{AnyStep, GainedBy, GainedInOrder, gains_mode, refuses_reader, refuses_writer}
+use Rattle.sync_cell.specs.Gains.{AnyStep, GainedBy, GainedInOrder, IsQuiet, gains_mode, refuses_reader, refuses_writer}
 
 -- a step of a sweep refuses nobody
 sweeping_refuses_none : (k : Kind) (a b : Bool) → is_sweeping k ≡ true → ((is_load k && a) || (is_hold k && b)) ≡ false
@@ -79,7 +80,7 @@ module _ {P : Type 0} where
   pub gained_last : (such : StepEntry → Type 0) (v z w : View P) (lock : ℕ) (gain : StepEntry) → AddsSteps (IsTrySuch such v lock) v w → MadeMore v z → w.steps ≡ gain ∷ z.steps → gain.won ≡ true → gains_mode gain.kind ≡ true → AddsReads (λ shape number added. GainedBy such lock number added) v w
   gained_last such v z w lock gain adds more last won kind =
       let stand : w.steps ≡ (gain ∷ more.0) ++ v.steps = last ∙ ap (λ (l : List StepEntry). gain ∷ l) more.1 in
-      (gain ∷ more.0, stand, record { later = []; gain = gain; earlier = more.0; stand = refl; tries = all_added (IsTrySuch such v lock) v w (gain ∷ more.0) adds stand; gains = (won, kind) })
+      (gain ∷ more.0, stand, record { later = []; gain = gain; earlier = more.0; stand = refl; tries = all_added (IsTrySuch such v lock) v w (gain ∷ more.0) adds stand; gains = (won, kind); after = All-nil such })
 
   -- one lock was gained, and then another
   pub gained_in_order : (v u w : View P) (low high : ℕ) → u.number ≡ v.number → AddsReads (λ shape number added. GainedBy AnyStep low number added) v u → AddsReads (λ shape number added. GainedBy AnyStep high number added) u w → AddsReads (λ shape number added. GainedInOrder low high number added) v w
@@ -89,15 +90,16 @@ module _ {P : Type 0} where
     record { later = b.0; earlier = a.0; stand = refl; first = a.2; second = subst (λ (n : ℕ). GainedBy AnyStep high n b.0) number b.2 },
   )
 
--- what was gained stays so where steps are added
-pub still_gained : (such : StepEntry → Type 0) (lock number : ℕ) (added steps : List StepEntry) → GainedBy such lock number steps → GainedBy such lock number (added ++ steps)
-still_gained such lock number added steps g = record {
+-- what was gained stays so where such steps are added
+still_gained : (such : StepEntry → Type 0) (lock number : ℕ) (added steps : List StepEntry) → All such added → GainedBy such lock number steps → GainedBy such lock number (added ++ steps)
+still_gained such lock number added steps more g = record {
   later = added ++ g.later;
   gain = g.gain;
   earlier = g.earlier;
   stand = ap (λ (l : List StepEntry). added ++ l) g.stand ∙ sym (append_assoc added g.later (g.gain ∷ g.earlier));
   tries = g.tries;
   gains = g.gains;
+  after = All-append such added g.later more g.after;
 }
 
 pub still_in_order : (low high number : ℕ) (added steps : List StepEntry) → GainedInOrder low high number steps → GainedInOrder low high number (added ++ steps)
@@ -106,8 +108,19 @@ still_in_order low high number added steps g = record {
   earlier = g.earlier;
   stand = ap (λ (l : List StepEntry). added ++ l) g.stand ∙ sym (append_assoc added g.later g.earlier);
   first = g.first;
-  second = still_gained AnyStep high number added g.later g.second;
+  second = still_gained AnyStep high number added g.later (λ k d lt. tt) g.second;
 }
+
+module _ {P : Type 0} where
+  pub gained_then : (such : StepEntry → Type 0) (v u w : View P) (lock : ℕ) → AddsReads (λ shape number added. GainedBy such lock number added) v u → AddsSteps such u w → AddsReads (λ shape number added. GainedBy such lock number added) v w
+  gained_then such v u w lock a b = (b.0 ++ a.0, b.1 ∙ ap (λ (l : List StepEntry). b.0 ++ l) a.1 ∙ sym (append_assoc b.0 a.0 v.steps), still_gained such lock v.number b.0 a.0 b.2 a.2)
+
+  -- quiet steps refuse neither a reader nor a writer
+  pub quiet_for_reader : (v w : View P) (policy : Policy) → AddsSteps IsQuiet v w → AddsSteps (λ e. refuses_reader policy e ≡ false) v w
+  quiet_for_reader v w policy a = adds_as IsQuiet (λ e. refuses_reader policy e ≡ false) v w (λ e q. ap (λ (b : Bool). b && conflicts_for_shared policy e.word) q.0) a
+
+  pub quiet_for_writer : (v w : View P) → AddsSteps IsQuiet v w → AddsSteps (λ e. refuses_writer e ≡ false) v w
+  quiet_for_writer v w a = adds_as IsQuiet (λ e. refuses_writer e ≡ false) v w (λ e q. ap (λ (b : Bool). (b && conflicts_for_announcing e.word) || (is_hold e.kind && not e.won)) q.0 ∙ ap (λ (b : Bool). b && not e.won) q.1) a
 
 -- ---- readers
 module _ {C P : Type 0} (g : Ghosts C P) (v w : View P) (lock : ℕ) (away : standing v lock ≡ Away) where

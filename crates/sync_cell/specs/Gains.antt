@@ -8,7 +8,7 @@ use Rattle.hall.specs.Plays.{conflicts_for_announcing, conflicts_for_shared}
 use Rattle.hall.specs.Views.{mode_of}
 use Rattle.sync_cell.specs.Attempts.{is_hold, is_load}
 
--- the kinds of step by which a pass that held no mode at a lock gains one there
+-- the kinds of step by which a pass that held no mode at a lock gains one there; a reader in a slot gains it by another, which no call of this crate makes so far
 abbrev pub gains_mode : Kind → Bool
 gains_mode kinds.Enter = true
 gains_mode kinds.UpgradeIn = true
@@ -23,7 +23,11 @@ refuses_reader policy e = is_load e.kind && conflicts_for_shared policy e.word
 abbrev pub refuses_writer : StepEntry → Bool
 refuses_writer e = (is_load e.kind && conflicts_for_announcing e.word) || (is_hold e.kind && not e.won)
 
--- Of these steps of a pass of this number, the newest first, one gained a mode at a lock. All up to it were made for the lock, with no mode held there, and are such steps
+-- a step that is no try's first look at a lock and no last exchange of a writer, so that it refuses nobody
+abbrev pub IsQuiet : StepEntry → Type 0
+IsQuiet e = (is_load e.kind ≡ false) × (is_hold e.kind ≡ false)
+
+-- These steps of a pass of this number, the newest first, are all such steps, and one of them gained a mode at a lock. All up to it were made for the lock, with no mode held there
 pub record GainedBy (such : StepEntry → Type 0) (lock number : ℕ) (steps : List StepEntry) : Type 0 where
   pub later : List StepEntry
   pub gain : StepEntry
@@ -31,6 +35,7 @@ pub record GainedBy (such : StepEntry → Type 0) (lock number : ℕ) (steps : L
   pub stand : steps ≡ later ++ (gain ∷ earlier)
   pub tries : All (λ (e : StepEntry). ((e.number ≡ number) × (e.lock ≡ lock) × (mode_of e.before ≡ None)) × such e) (gain ∷ earlier)
   pub gains : (gain.won ≡ true) × (gains_mode gain.kind ≡ true)
+  pub after : All such later
 
 -- any step
 abbrev pub AnyStep : StepEntry → Type 0

@@ -7,7 +7,7 @@ use Rattle.hall.specs.Passes.{view, cargo_of}
 use Rattle.query_cells.proofs.Replies.{nothing_gained, tells_after}
 use Rattle.hall.specs.Treading.{IsAt, treads_none, treads_then}
 use Rattle.query_cells.proofs.Trails.{at_here}
-use Rattle.query_cells.proofs.Tries.{busy_ungranted, refused_tried, tells_more, wrote_by_tries}
+use Rattle.query_cells.proofs.Tries.{busy_ungranted, refused_tried, wrote_by_tries}
 use Rattle.query_cells.proofs.refusable.ask_try_put.Goals as goal
 
 pub refuse-requires-clause-may : goal.refuse-requires-clause-may
@@ -50,4 +50,4 @@ returns-in-None-clause-tries g c = λ granted. absurd (busy_ungranted c.refuse.r
 pub returns-in-Some-clause-tries : goal.returns-in-Some-clause-tries
 returns-in-Some-clause-tries g c =
     let v = view c.args.pass.now in let u = view c.try_to_write.new.pass in let w = view c.answer_put.new.pass in
-    wrote_by_tries v u w c.args.cell c.args.key c.args.value c.answer_put.result c.in-Some.ensures.tries (tells_more (cargo_of c.args.hall.now) u w c.args.index _ c.answer_put.result c.answer_put.ensures.tells)
+    wrote_by_tries v u w c.args.cell c.args.key c.args.value c.answer_put.result c.in-Some.ensures.tries c.answer_put.ensures.quiet

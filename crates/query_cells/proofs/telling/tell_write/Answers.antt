@@ -6,6 +6,7 @@ use Rattle.map_cargo.specs.Cells.{number_place}
 use Rattle.map_cargo.specs.Steps.{Drew, cargo_step, row_stores}
 use Rattle.query_cells.specs.Asked.{entry_for}
 use Rattle.query_cells.proofs.Replies.{write_told}
+use Rattle.query_cells.proofs.Quiet.{quiet_drawn}
 use Rattle.query_cells.proofs.telling.tell_write.Goals as goal
 
 pub returns-clause-tells : goal.returns-clause-tells
@@ -15,3 +16,7 @@ returns-clause-tells c =
     (subst (λ (k : ℕ). Drew 8 v.part w.part n (entry_for k c.args.index c.args.query.now c.args.said)) c.number.ensures.value e.drawn.0) e.drawn.1 c.requires.mode
     (c.requires.pass.2 ∙ ap (λ (s : Shape). s.locks) (sym c.requires.pass.1))
     (subst (λ (k : ℕ). w.steps ≡ row_stores v m n (entry_for k c.args.index c.args.query.now c.args.said) 8 ++ (cargo_step v AddCargo (number_place m) n true ∷ v.steps)) c.number.ensures.value e.steps)
+
+pub returns-clause-quiet : goal.returns-clause-quiet
+returns-clause-quiet c =
+    quiet_drawn (view c.args.pass.now) (view c.draw.new.pass) (cargo_of c.args.hall.now) c.in-Ok.number _ c.in-Ok.ensures.steps

@@ -1,0 +1,52 @@
+-- Steps that refuse no try: those on the words of the cargo, and one that gives a lock back.
+use Rattle.std.specs.Prelude.{◌≡◌, ◌⊎◌, ℕ, zero, suc, true, false, List, [], ◌∷◌, ◌++◌, All, slice_index}
+use Rattle.std.proofs.Common.{refl, sym, ap, ◌∙◌, ⊎_elim, append_assoc, inl, inr}
+use Rattle.std.proofs.lemmas.List.Elements.{All-nil, All-cons, All-append}
+use Rattle.lock_model.specs.Locks.{Has}
+use Rattle.hall.specs.declared.view.Kind.{Kind}
+use Rattle.hall.specs.declared.view.Kind.TheVariants.{AddCargo, LoadCargo, StoreCargo}
+use Rattle.hall.specs.declared.view.StepEntry.{StepEntry}
+use Rattle.hall.specs.declared.view.View.{View}
+use Rattle.shared_mutex.specs.Tries.{AddsSteps}
+use Rattle.shared_mutex.specs.TryLaws.{adds_then}
+use Rattle.sync_cell.specs.Attempts.{is_hold, is_load}
+use Rattle.sync_cell.specs.Gains.{IsQuiet}
+use Rattle.map_cargo.specs.declared.size.MapCargo.{MapCargo}
+use Rattle.map_cargo.specs.declared.entry.Entry.{Entry}
+use Rattle.map_cargo.specs.declared.entry.Part.{Part}
+use Rattle.map_cargo.specs.Cells.{log_place, number_place}
+use Rattle.map_cargo.specs.Entries.{log_words}
+use Rattle.map_cargo.specs.Probes.{IsInCell, StaysInCell}
+use Rattle.map_cargo.specs.Steps.{cargo_step, row_stores}
+
+-- one step
+pub quiet_once : (v w : View Part) (e : StepEntry) → IsQuiet e → w.steps ≡ e ∷ v.steps → AddsSteps IsQuiet v w
+quiet_once v w e quiet is = (e ∷ [], is, All-cons IsQuiet e [] quiet (All-nil IsQuiet))
+
+pub quiet_then : (v u w : View Part) → AddsSteps IsQuiet v u → AddsSteps IsQuiet u w → AddsSteps IsQuiet v w
+quiet_then v u w a b = adds_then IsQuiet v u w a b
+
+-- loads and stores of a cell's words
+of_cargo : (k : Kind) → (k ≡ LoadCargo) ⊎ (k ≡ StoreCargo) → (is_load k ≡ false) × (is_hold k ≡ false)
+of_cargo k is = ⊎_elim (λ l. (ap is_load l, ap is_hold l)) (λ s. (ap is_load s, ap is_hold s)) is
+
+pub quiet_inside : (c : MapCargo) (cell : ℕ) (v w : View Part) → StaysInCell c cell v w → AddsSteps IsQuiet v w
+quiet_inside c cell v w s = (s.added, s.stand, has_all s.added (λ e has. of_cargo e.kind (s.each e has).kind))
+  where
+    has_all : (es : List StepEntry) → ((e : StepEntry) → Has es e → IsQuiet e) → All IsQuiet es
+    has_all [] each = All-nil IsQuiet
+    has_all (e ∷ es) each = All-cons IsQuiet e es (each e (inl refl)) (has_all es (λ x has. each x (inr has)))
+
+-- a read that was placed, and a write that was drawn
+pub quiet_placed : (v w : View Part) (place word : ℕ) → w.steps ≡ cargo_step v LoadCargo place word false ∷ v.steps → AddsSteps IsQuiet v w
+quiet_placed v w place word is = quiet_once v w (cargo_step v LoadCargo place word false) (refl, refl) is
+
+row_quiet : (v : View Part) (c : MapCargo) (w k : ℕ) (e : Entry) → All IsQuiet (row_stores v c w e k)
+unfolding row_stores
+row_quiet v c w zero e = All-nil IsQuiet
+row_quiet v c w (suc k) e = All-cons IsQuiet (cargo_step v StoreCargo (log_place c w k) (slice_index (log_words e) k) true) (row_stores v c w e k) (refl, refl) (row_quiet v c w k e)
+
+pub quiet_drawn : (v w : View Part) (c : MapCargo) (n : ℕ) (e : Entry) → w.steps ≡ row_stores v c n e 8 ++ (cargo_step v AddCargo (number_place c) n true ∷ v.steps) → AddsSteps IsQuiet v w
+quiet_drawn v w c n e is =
+    let first : StepEntry = cargo_step v AddCargo (number_place c) n true in let rows : List StepEntry = row_stores v c n e 8 in
+    (rows ++ (first ∷ []), is ∙ sym (append_assoc rows (first ∷ []) v.steps), All-append IsQuiet rows (first ∷ []) (row_quiet v c n 8 e) (All-cons IsQuiet first [] (refl, refl) (All-nil IsQuiet)))
