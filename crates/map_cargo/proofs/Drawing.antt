@@ -20,7 +20,7 @@ use Rattle.map_cargo.specs.declared.entry.Part.{Part}
 use Rattle.map_cargo.specs.Cells.{number_place, log_place, cell_words, Means}
 use Rattle.map_cargo.specs.Entries.{queries, named_cells, spoken_cells, log_words}
 use Rattle.map_cargo.specs.Openings.{opening_in, first_maps, map_made, unmade}
-use Rattle.map_cargo.specs.History.{Seat, Stands, WrittenAs, is_wrote, stored, mode_at, plain_of, Knows, OneHistory, IsRested}
+use Rattle.map_cargo.specs.History.{Seat, Stands, WrittenAs, is_wrote, stored, mode_at, plain_of, Knows, OneHistory, IsPlainThen, IsRested}
 use Rattle.map_cargo.specs.Laws.{each_back, all_stored}
 use Rattle.map_cargo.specs.Steps.{Drew, logged, placed}
 use Rattle.map_cargo.proofs.Places.{cell_far}
@@ -31,12 +31,16 @@ use Rattle.map_cargo.proofs.Notes.{alone, quiet}
 abbrev drawn : Part → ℕ → Entry → Made → Part
 drawn p w e made = record { words = p.words; made = noted made (named_cells e.query) p.made; seen = w + 1; told = Wrote w e ∷ p.told; row = w; stored = 0 }
 
+-- what the rule says of the moment at which the number word was found
+plain_then : (c d : MapCargo) (ws : List ℕ) (qs : List Seat) (e f : Entry) (number : ℕ) (h : OneHistory c ws qs) → c ≡ d → e ≡ f → number ≡ length h.entries → reply_of c.rows (maps_after (first_maps c) (queries h.entries)) e.query ≡ Some e.said → IsPlainThen d ws number f
+plain_then c d ws qs e f number h same one found said = subst (λ (z : MapCargo). IsPlainThen z ws number f) same (subst (IsPlainThen c ws number) one record { seats = qs; rule = h; count = sym found; said = said })
+
 -- a write is drawn
-pub draws : (c : MapCargo) (id place writes : ℕ) (e f : Entry) (q : Seat) → place ≡ number_place c → e ≡ f → c.writes ≡ writes → 1 ≤ q.quota
+pub draws : (c d : MapCargo) (id place : ℕ) (e f : Entry) (q : Seat) → place ≡ number_place c → e ≡ f → c ≡ d → 1 ≤ q.quota
     → ((cell : ℕ) → Has (named_cells e.query) cell → cell < c.cells) → ((cell : ℕ) → Has (named_cells e.query) cell → mode_at q cell ≡ exclusive_mode)
     → reply_of c.rows (plain_of q.part) e.query ≡ Some e.said → is_write e.said ≡ true → IsRested q.part
-    → Notes (OneHistory c) id q 1 place (λ x. (x + 1) % 2 ^ 64) (λ words found p r. Drew 0 p r found f × (found < writes))
-draws c id place writes e f q is one many some' near holds said writes' rested ws qs h apart at in' fits =
+    → Notes (OneHistory c) id q 1 place (λ x. (x + 1) % 2 ^ 64) (λ words found p r. Drew 0 p r found f × (found < d.writes) × IsPlainThen d words found f)
+draws c d id place e f q is one many some' near holds said writes' rested ws qs h apart at in' fits =
     let E : List Entry = h.entries in let n : ℕ = length E in let k = h.knows id q at in
     let M : Maps = maps_after (first_maps c) (queries E) in
     let found : get_or ws place 0 ≡ n = ap (λ (z : ℕ). get_or ws z 0) is ∙ h.number in
@@ -107,7 +111,8 @@ draws c id place writes e f q is one many some' near holds said writes' rested w
           row = sym found;
           stores = refl;
         },
-        omega arith,
+        subst (λ (z : MapCargo). get_or ws place 0 < z.writes) many (omega arith),
+        plain_then c d ws qs e f (get_or ws place 0) h many one found (sym (reply_same c.rows (plain_of q.part) M e.query (λ cell has. agree cell (spoken_named e.query cell has))) ∙ said),
       ),
       subst (λ (z : ℕ). OneHistory c (set ws place z) (set qs id r)) (sym next) after,
     )
@@ -161,18 +166,18 @@ logs c id place value n k k' e q is one few row is_stored mine' same ws qs h apa
     )
 
 -- a read is placed
-pub places : (c : MapCargo) (id place writes : ℕ) (e f : Entry) (q : Seat) → place ≡ number_place c → e ≡ f → c.writes ≡ writes
+pub places : (c d : MapCargo) (id place : ℕ) (e f : Entry) (q : Seat) → place ≡ number_place c → e ≡ f → c ≡ d
     → ((cell : ℕ) → Has (spoken_cells e.query) cell → cell < c.cells) → ((cell : ℕ) → Has (spoken_cells e.query) cell → mode_at q cell ≢ None)
     → reply_of c.rows (plain_of q.part) e.query ≡ Some e.said → is_write e.said ≡ false
-    → Notes (OneHistory c) id q 0 place (λ x. x) (λ words found p r. (r ≡ placed p found f) × (p.seen ≤ found) × (found ≤ writes))
-places c id place writes e f q is one limit near holds said reads' ws qs h apart at in' fits =
+    → Notes (OneHistory c) id q 0 place (λ x. x) (λ words found p r. (r ≡ placed p found f) × (p.seen ≤ found) × (found ≤ d.writes) × IsPlainThen d words found f)
+places c d id place e f q is one limit near holds said reads' ws qs h apart at in' fits =
     let E : List Entry = h.entries in let n : ℕ = length E in let k = h.knows id q at in
     let M : Maps = maps_after (first_maps c) (queries E) in
     let found : get_or ws place 0 ≡ n = ap (λ (z : ℕ). get_or ws z 0) is ∙ h.number in
     let part : Part = placed q.part n e in
     let agree : (cell : ℕ) → Has (spoken_cells e.query) cell → plain_of q.part cell ≡ M cell = λ cell has. (k.known cell (near cell has) (holds cell has)).1 in (
       part,
-      ((λ i. placed q.part (sym found i) (one i)), (let s = k.seen in omega arith), (let r = h.room in omega arith)),
+      ((λ i. placed q.part (sym found i) (one i)), (let s = k.seen in omega arith), subst (λ (z : MapCargo). get_or ws place 0 ≤ z.writes) limit (let r = h.room in omega arith), plain_then c d ws qs e f (get_or ws place 0) h limit one found (sym (reply_same c.rows (plain_of q.part) M e.query agree) ∙ said)),
       subst (λ (l : List ℕ). OneHistory c l (set qs id (noted_seat q 0 part))) (sym (set-get_or ws place 0)) (quiet c ws qs id q h at part record {
         seen = omega arith;
         told = λ t has. ⊎_elim

@@ -6,7 +6,6 @@ use Rattle.view_sums.specs.Sums.{total}
 use Rattle.lock_model.specs.Locks.{Has}
 use Rattle.lock_model.specs.declared.model.Mode.{Mode}
 use Rattle.hall.specs.Cargo.{CargoSeat, exclusive_mode}
-use Rattle.query_rules.specs.declared.query.Query.{Query}
 use Rattle.query_rules.specs.declared.query.Reply.{Reply}
 use Rattle.query_rules.specs.declared.query.Reply.TheVariants.{Placed, Busy, Late, Job}
 use Rattle.query_rules.specs.Maps.{Maps, reply_of, is_write}
@@ -123,6 +122,13 @@ pub record OneHistory (c : MapCargo) (ws : List ℕ) (qs : List Seat) : Type 0 w
   pub knows : Each (Knows c entries ws) qs
   pub once : (w : ℕ) → w < length entries → total (λ q. total (is_wrote w) q.part.told) qs ≡ 1
   pub calm : (cell : ℕ) → cell < c.cells → Each (λ q. mode_at q cell ≢ exclusive_mode) qs → Means (cell_words c ws cell) (maps_after (first_maps c) (queries entries) cell)
+
+-- the rule held of these words, so many writes were drawn, and the entry says what the plain maps after them say
+pub record IsPlainThen (c : MapCargo) (ws : List ℕ) (number : ℕ) (e : Entry) : Type 0 where
+  pub seats : List Seat
+  pub rule : OneHistory c ws seats
+  pub count : length rule.entries ≡ number
+  pub said : reply_of c.rows (maps_after (first_maps c) (queries rule.entries)) e.query ≡ Some e.said
 
 -- what is known of a cell after a gain: its words mean its plain map
 abbrev pub Learns : ℕ → Part → Part → Type 0

@@ -8,5 +8,6 @@ pub mod StepLaws
 pub mod Licences
 pub mod Gaining
 pub mod Probes
+pub mod Moments
 pub mod Rows
 pub mod Examples

@@ -1,14 +1,18 @@
 //! Drawing a write and placing a read: where a reply stands in the one history.
-ghost use Rattle.std.specs.Prelude.{◌≡◌, ◌≢◌, ◌<◌, ◌≤◌, ◌+◌, ◌^◌, ◌∷◌, ◌++◌, ℕ, IfOk, MatchResult, slice_index, length, true, false};
+ghost use Rattle.std.specs.Prelude.{◌≡◌, ◌≢◌, ◌<◌, ◌≤◌, ◌+◌, ◌%◌, ◌^◌, ◌∷◌, ◌++◌, ℕ, IfOk, MatchResult, slice_index, length, true, false};
 ghost use Rattle.hall.specs.Passes.{view, IsPassOf, cargo_of};
 ghost use Rattle.hall.specs.declared.view.Kind.TheVariants.{LoadCargo, StoreCargo, AddCargo};
 ghost use Rattle.lock_model.specs.Locks.{Has};
 ghost use Rattle.query_rules.specs.declared.query.Query.TheVariants.{Audit};
 ghost use Rattle.query_rules.specs.declared.query.Said.TheVariants.{Absent};
+ghost use Rattle.hall.specs.declared.view.View.{View};
 ghost use Rattle.map_cargo.specs.declared.entry.Entry.{Entry};
+ghost use Rattle.map_cargo.specs.declared.entry.Part.{Part};
 ghost use Rattle.map_cargo.specs.declared.entry.Told.TheVariants as told;
 ghost use Rattle.map_cargo.specs.Cells.{log_place, number_place};
 ghost use Rattle.map_cargo.specs.Entries.{log_words};
+ghost use Rattle.map_cargo.specs.History.{IsPlainThen};
+ghost use Rattle.map_cargo.specs.Moments.{PlainMoment, no_cells};
 ghost use Rattle.map_cargo.specs.Steps.{Suits, Stays, Alike, Drew, cargo_step, logged, placed, row_stores, MayDraw, MayPlace};
 
 use crate::entry::Entry;
@@ -17,16 +21,17 @@ use hall::{Hall, Note, Pass};
 use query_rules::Query;
 use std::marker::{Brand, PhantomData};
 
-/// The entry of one call, which word of its log row, and how many rows there are. The call picks them.
+/// The entry of one call, which word of its log row, and the cargo. The call picks them.
 pub(crate) trait Line {
     ghost use Rattle.std.specs.Prelude.{ℕ};
     ghost use Rattle.map_cargo.specs.declared.entry.Entry.{Entry};
+    ghost use Rattle.map_cargo.specs.declared.size.MapCargo.{MapCargo};
 
     ghost entry: { Entry };
 
     ghost index: { ℕ };
 
-    ghost writes: { ℕ };
+    ghost cargo: { MapCargo };
 }
 
 impl Line for Brand {
@@ -34,7 +39,7 @@ impl Line for Brand {
 
     ghost index = { 0 };
 
-    ghost writes = { 0 };
+    ghost cargo = { no_cells };
 }
 
 pub(crate) struct Draws<K> {
@@ -42,7 +47,7 @@ pub(crate) struct Draws<K> {
 }
 
 impl<K: Line> Note<MapCargo> for Draws<K> {
-    ghost becomes = { λ ws found p q. Drew 0 p q found K.entry × (found < K.writes) };
+    ghost becomes = { λ ws found p q. Drew 0 p q found K.entry × (found < K.cargo.writes) × IsPlainThen K.cargo ws found K.entry };
 }
 
 pub(crate) struct Logs<K> {
@@ -58,7 +63,7 @@ pub(crate) struct Places<K> {
 }
 
 impl<K: Line> Note<MapCargo> for Places<K> {
-    ghost becomes = { λ ws found p q. (q ≡ placed p found K.entry) × (p.seen ≤ found) × (found ≤ K.writes) };
+    ghost becomes = { λ ws found p q. (q ≡ placed p found K.entry) × (p.seen ≤ found) × (found ≤ K.cargo.writes) × IsPlainThen K.cargo ws found K.entry };
 }
 
 /// The pass can draw no more writes.
@@ -98,7 +103,7 @@ fn row_of(entry: &Entry, caller: u64) -> [u64; 8]
 fn draw_by<K: Line>(hall: &Hall<MapCargo>, pass: &mut Pass<MapCargo>, entry: &Entry) -> u64
     requires pass { IsPassOf hall.now pass.old }
     requires suits { Suits hall.now }
-    requires entry { (entry.now ≡ K.entry) × ((cargo_of hall.now).writes ≡ K.writes) }
+    requires entry { (entry.now ≡ K.entry) × (cargo_of hall.now ≡ K.cargo) }
     requires may { MayDraw (cargo_of hall.now) (view pass.old) entry.now }
     requires quota { 0 < (view pass.old).quota }
     ensures pass { IsPassOf hall.now pass.new × Stays (view pass.old) (view pass.new) }
@@ -106,6 +111,7 @@ fn draw_by<K: Line>(hall: &Hall<MapCargo>, pass: &mut Pass<MapCargo>, entry: &En
     ensures drew { Drew 0 (view pass.old).part (view pass.new).part result entry.now }
     ensures number { result < (cargo_of hall.now).writes }
     ensures step { (view pass.new).steps ≡ cargo_step (view pass.old) AddCargo (number_place (cargo_of hall.now)) result true ∷ (view pass.old).steps }
+    ensures moment { PlainMoment (cargo_of hall.now) (view pass.old) (view pass.new) result ((result + 1) % 2 ^ 64) entry.now }
 {
     let place = hall.cargo().number_place();
     hall.add_cargo::<Draws<K>>(pass, place, 1)
@@ -121,6 +127,7 @@ fn draw_number(hall: &Hall<MapCargo>, pass: &mut Pass<MapCargo>, entry: &Entry) 
     ensures drew { Drew 0 (view pass.old).part (view pass.new).part result entry.now }
     ensures number { result < (cargo_of hall.now).writes }
     ensures step { (view pass.new).steps ≡ cargo_step (view pass.old) AddCargo (number_place (cargo_of hall.now)) result true ∷ (view pass.old).steps }
+    ensures moment { PlainMoment (cargo_of hall.now) (view pass.old) (view pass.new) result ((result + 1) % 2 ^ 64) entry.now }
 {
     draw_by::<Brand>(hall, pass, entry)
 }
@@ -206,6 +213,7 @@ pub fn draw(
     ensures pass { IsPassOf hall.now pass.new × Stays (view pass.old) (view pass.new) }
     ensures drawn { MatchResult result (λ number. Drew 8 (view pass.old).part (view pass.new).part number entry.now × ((view pass.new).quota + 1 ≡ (view pass.old).quota) × (number < (cargo_of hall.now).writes)) (λ _. ((view pass.old).quota ≡ 0) × (view pass.new ≡ view pass.old)) }
     ensures steps { IfOk result (λ number. (view pass.new).steps ≡ row_stores (view pass.old) (cargo_of hall.now) number entry.now 8 ++ (cargo_step (view pass.old) AddCargo (number_place (cargo_of hall.now)) number true ∷ (view pass.old).steps)) }
+    ensures moment { IfOk result (λ number. (drew : View Part) × PlainMoment (cargo_of hall.now) (view pass.old) drew number ((number + 1) % 2 ^ 64) entry.now) }
 {
     if pass.quota() == 0 {
         return Err(QuotaSpent);
@@ -218,12 +226,13 @@ pub fn draw(
 fn place_by<K: Line>(hall: &Hall<MapCargo>, pass: &mut Pass<MapCargo>, entry: &Entry) -> u64
     requires pass { IsPassOf hall.now pass.old }
     requires suits { Suits hall.now }
-    requires entry { (entry.now ≡ K.entry) × ((cargo_of hall.now).writes ≡ K.writes) }
+    requires entry { (entry.now ≡ K.entry) × (cargo_of hall.now ≡ K.cargo) }
     requires may { MayPlace (cargo_of hall.now) (view pass.old) entry.now }
     ensures pass { IsPassOf hall.now pass.new × Alike (view pass.old) (view pass.new) }
     ensures placed { ((view pass.new).part ≡ placed (view pass.old).part result entry.now) × ((view pass.old).part.seen ≤ result) }
     ensures number { result ≤ (cargo_of hall.now).writes }
     ensures step { (view pass.new).steps ≡ cargo_step (view pass.old) LoadCargo (number_place (cargo_of hall.now)) result false ∷ (view pass.old).steps }
+    ensures moment { PlainMoment (cargo_of hall.now) (view pass.old) (view pass.new) result result entry.now }
 {
     let place = hall.cargo().number_place();
     hall.load_cargo::<Places<K>>(pass, place)
@@ -240,6 +249,7 @@ pub fn place_read(hall: &Hall<MapCargo>, pass: &mut Pass<MapCargo>, entry: &Entr
     ensures placed { ((view pass.new).part ≡ placed (view pass.old).part result entry.now) × ((view pass.old).part.seen ≤ result) }
     ensures number { result ≤ (cargo_of hall.now).writes }
     ensures step { (view pass.new).steps ≡ cargo_step (view pass.old) LoadCargo (number_place (cargo_of hall.now)) result false ∷ (view pass.old).steps }
+    ensures moment { PlainMoment (cargo_of hall.now) (view pass.old) (view pass.new) result result entry.now }
 {
     place_by::<Brand>(hall, pass, entry)
 }
