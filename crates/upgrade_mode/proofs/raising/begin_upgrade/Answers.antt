@@ -32,5 +32,6 @@ returns-in-Err-clause-step g c =
         (λ same. miss.0 (sym same)),
         look.0 ∙ ap (λ (z : View _). after_look z Up c.args.guard.lock c.in-Err.found) t.0,
         found_changed g.C.CargoRule _ _ _ _ _ _ _ look.2 look.0 (view c.args.pass.now) c.load-seen.result t.0 (λ same. miss.0 (sym same)),
+        holder_finds g.C.CargoRule _ _ _ _ _ _ t.2 c.requires.fits.1,
       ),
     )

@@ -20,4 +20,5 @@ returns-in-Err-clause-step g c =
       (λ same. miss.0 (sym same)),
       look.0 ∙ ap (λ (z : View _). after_look z UpgradeIn c.args.lock c.in-Err.found) t.0,
       found_changed g.C.CargoRule _ _ _ _ _ _ _ look.2 look.0 (view c.args.pass.now) c.load-seen.result t.0 (λ same. miss.0 (sym same)),
+      sym c.conflicts_for_announcing.ensures ∙ c.if-conflicts_for_announcing.false,
     )
