@@ -16,10 +16,10 @@ module _ {C P : Type 0} (g : Ghosts C P) where
   EntersUpgrade v lock w = (seen : ℕ) × (conflicts_for_announcing seen ≡ false) × TakesUpgrade g (after_look v kinds.Load lock seen) lock seen w
 
   -- Busy: one load, from outside, found this word, which conflicts; so a writer or an upgrade holder was there.
-  -- Raced: one load and then one failed exchange found these two words, which differ; so another seat was there
+  -- Raced: one load found a word that doesn't conflict, and then one failed exchange another word; so another seat was there
   abbrev pub RefusesUpgrade : View P → ℕ → View P → TryFault → Type 0
   RefusesUpgrade v lock w (Busy word) = (conflicts_for_announcing word ≡ true) × (w ≡ after_look v kinds.Load lock word) × MetAWriter g w lock
-  RefusesUpgrade v lock w (Raced expected found) = (expected ≢ found) × (w ≡ after_look (after_look v kinds.Load lock expected) kinds.UpgradeIn lock found) × WasNotAlone g w lock
+  RefusesUpgrade v lock w (Raced expected found) = (expected ≢ found) × (w ≡ after_look (after_look v kinds.Load lock expected) kinds.UpgradeIn lock found) × WasNotAlone g w lock × (conflicts_for_announcing expected ≡ false)
 
   -- one load found a word that shows the upgrade, and one exchange from it announced the upgrade holder
   abbrev pub BeginsUpgrade : View P → ℕ → View P → Type 0

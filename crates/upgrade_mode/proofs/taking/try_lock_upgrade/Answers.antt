@@ -1,4 +1,4 @@
-use Rattle.std.proofs.Common.{◌≡◌, true, sym, ap, ◌∙◌}
+use Rattle.std.proofs.Common.{◌≡◌, true, false, sym, ap, ◌∙◌}
 use Rattle.hall.specs.declared.view.Kind.TheVariants.{UpgradeIn}
 use Rattle.hall.specs.declared.view.View.{View}
 use Rattle.hall.specs.Passes.{view}
@@ -16,8 +16,10 @@ returns-then-conflicts_for_announcing-clause-step g c =
 
 pub returns-in-Err-clause-step : goal.returns-in-Err-clause-step
 returns-in-Err-clause-step g c =
-    let t = c.load-seen.ensures.step in let miss = c.in-Err.ensures.step in let look = miss.1 in (
+    let t = c.load-seen.ensures.step in let miss = c.in-Err.ensures.step in let look = miss.1 in
+    let free : conflicts_for_announcing c.load-seen.result ≡ false = sym c.conflicts_for_announcing.ensures ∙ c.if-conflicts_for_announcing.false in (
       (λ same. miss.0 (sym same)),
       look.0 ∙ ap (λ (z : View _). after_look z UpgradeIn c.args.lock c.in-Err.found) t.0,
       found_changed g.C.CargoRule _ _ _ _ _ _ _ look.2 look.0 (view c.args.pass.now) c.load-seen.result t.0 (λ same. miss.0 (sym same)),
+      free,
     )
