@@ -19,8 +19,10 @@ abbrev pub AllRefused : {V F : Type 0} → (V → V → F → Type 0) → V → 
 AllRefused {V} refuses v [] w = w ≡ v
 AllRefused {V} refuses v (fault ∷ faults) w = (u : V) × AllRefused refuses v faults u × refuses u w fault
 
+-- a step that takes an announcement back, from outside or from upgrade
 abbrev pub is_retract : Kind → Bool
 is_retract kinds.Retract = true
+is_retract kinds.UpRetract = true
 is_retract kind = false
 
 module _ {P : Type 0} where
