@@ -1,0 +1,7 @@
+pub mod AskedLaws
+pub mod Callers
+pub mod LedgerLaws
+pub mod Lists
+pub mod MapLaws
+pub mod TakenLaws
+pub mod WholeLaws
