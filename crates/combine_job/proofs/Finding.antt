@@ -1,7 +1,7 @@
 -- An owner that finds a job of the next node, runs it, and has the value in its hand afterwards.
 use Rattle.std.proofs.Common.{◌≡◌, ◌≢◌, ℕ, ◌+◌, ◌-◌, ◌*◌, ◌<◌, ◌≤◌, Result, List, [], ◌∷◌, ◌++◌, Option, Some, None, refl, sym, ap, ◌∙◌, subst, arith}
 use Rattle.atomic_table.specs.Table.{rest}
-use Rattle.waiter_chain.specs.Goods.{Goods, Runs, Counts}
+use Rattle.waiter_chain.specs.Goods.{Goods, part, Runs, Counts}
 use Rattle.waiter_chain.specs.Chains.{owed}
 use Rattle.waiter_chain.specs.Steps.{SeatState, seen_job, with_next, run_slot, settled_notes, served}
 use Rattle.waiter_chain.specs.Calls.{HasTurn, KindSeen, LinkSeen, MayEnd}
@@ -32,15 +32,29 @@ module _ {P : Type 0} where
       let same : e.0 ≡ k.0 = owns-injective e.0 k.0 (sym e.2 ∙ k.1) in
       subst (MayEnd relates count ran) (sym k.2) (seen_job k.0, e.1, refl, e.3, e.4, subst (λ (z : Ownership P). Counts (owed z.mine) ran count) same e.5, subst (λ (z : Ownership P). Runs relates z.value ran e.1) same e.6)
 
-  pub found : (relates : P → P → P → P → Type 0) (rule : Goods P → Type 0) (slots : ℕ) (t : Turn) (m n : SeatState P) (link : ℕ) → HasTurn slots t m → MayEnd relates 0 [] m → t.first ≢ t.end → link ≢ 0 → LinkSeen rule (t.first - 2) m n link → HasJob rule slots t link n
-  found relates rule slots t m n link h e waits ne s =
+  pub found : (relates : P → P → P → P → Type 0) (rule : Goods P → Type 0) (slots count : ℕ) (ran : List (P × P)) (t : Turn) (m n : SeatState P) (link : ℕ) → HasTurn slots t m → MayEnd relates count ran m → t.first ≢ t.end → link ≢ 0 → LinkSeen rule (t.first - 2) m n link → HasJob relates rule slots count ran t link n
+  found relates rule slots count ran t m n link h e waits ne s =
       let x : ℕ = t.first - 2 in let f = s.1 ne in let k : Ownership P = f.0 in
       let o = owns_at slots t h.0 m k h.1 f.3 h.2 in let b = o.5.1 waits in
       let same : e.0 ≡ k = owns-injective e.0 k (sym e.2 ∙ f.3) in
-      let value : k.value ≡ e.1 = ap (λ (y : Ownership P). y.value) (sym same) ∙ e.6 in
-      let hand : m.1 ≡ (0, Some k.value) ∷ rest m.1 = e.3 ∙ (λ i. (0, Some (sym value i)) ∷ rest m.1) in
-      subst (HasJob rule slots t link) (sym f.4)
-      (with_next k x link f.1, f.1, f.2, rest m.1, refl, o.1, o.2, o.3, refl, o.6.1, f.5, ap (λ (c : List (ℕ × Option P)). c ++ (2 + 2 * x, f.2) ∷ (1 + 2 * x, Some f.1) ∷ []) hand, b.0, b.1, subst (λ (z : Ownership P). Counts (owed z.mine) [] 0) same e.5, f.6)
+      subst (HasJob relates rule slots count ran t link) (sym f.4) (record {
+        notes = with_next k x link f.1;
+        job = f.1;
+        answer = f.2;
+        own = rest m.1;
+        now = e.1;
+        owns = refl;
+        turn = (o.1, o.2, o.3);
+        next = refl;
+        mine = o.6.1;
+        apart = f.5;
+        hand = ap (λ (c : List (ℕ × Option P)). c ++ (2 + 2 * x, f.2) ∷ (1 + 2 * x, Some f.1) ∷ []) e.3;
+        low = (b.0, b.1);
+        runs = subst (λ (z : Ownership P). Runs relates z.value ran e.1) same e.6;
+        enough = e.4;
+        paid = subst (λ (z : Ownership P). Counts (owed z.mine) ran count) same e.5;
+        sound = f.6;
+      })
 
   none_owed : (y : OwnSlot P) → Counts (owed (run_slot y)) [] 0
   none_owed Unused = refl
@@ -48,29 +62,31 @@ module _ {P : Type 0} where
   none_owed (Unrun j) = refl
 
 module _ {V J O X : Type 0} (rooms : V → ℕ) (means : V → J → Result O X → V → Type 0) where
-  pub may_run : (is_ready : J → Type 0) (o : Opening (Parcel V J O X)) (slots : ℕ) (t : Turn) (link : ℕ) (kept : Kept V) (m n : SeatState (Parcel V J O X)) → (d : HasJob (Ruled rooms means is_ready o) slots t link m) → slots ≡ 1 + 2 * o.nodes → d.0.value ≡ Value kept
-      → n ≡ (m.0, full None d.3 (t.first - 2) d.2 (Some d.1)) → MayRun rooms means is_ready slots 0 [] t link kept n × (1 ≤ rooms kept.value) × (kept.ran + 1 < 18446744073709551616)
-  may_run is_ready o slots t link kept m n d sized is e =
+  pub may_run : (is_ready : J → Type 0) (o : Opening (Parcel V J O X)) (slots count : ℕ) (ran : List (Parcel V J O X × Parcel V J O X)) (t : Turn) (link : ℕ) (kept : Kept V) (m n : SeatState (Parcel V J O X)) → (d : HasJob (Related rooms means) (Ruled rooms means is_ready o) slots count ran t link m)
+      → slots ≡ 1 + 2 * o.nodes → m.0.number < o.nodes → d.now ≡ Value kept
+      → n ≡ (m.0, full None d.own (t.first - 2) d.answer (Some d.job)) → MayRun rooms means is_ready slots count ran t link kept n × (1 ≤ rooms kept.value) × (kept.ran + 1 < 18446744073709551616)
+  may_run is_ready o slots count ran t link kept m n d sized low is e =
       let x : ℕ = t.first - 2 in
-      let r = may_run_one rooms means is_ready o d.0.value d.1 m.0.quota x m.0.own [] kept d.15 (omega (arith, d.12, d.13, sized)) is (omega arith) in (
-        subst (MayRun rooms means is_ready slots 0 [] t link kept) (sym e) (
-          d.0,
+      let runs : Runs (Related rooms means) d.notes.value ran (Value kept) = subst (Runs (Related rooms means) d.notes.value ran) is d.runs in
+      let r = may_run_one rooms means is_ready o d.notes.value d.job (part m.0.number m.0.quota m.0.own) x count (owed d.notes.mine) ran kept d.sound (omega (arith, d.low.0, d.low.1, sized)) low d.apart runs d.paid d.enough in (
+        subst (MayRun rooms means is_ready slots count ran t link kept) (sym e) (
+          d.notes,
           r.0,
-          d.2,
-          d.3,
-          d.4,
-          d.5,
-          d.6,
-          d.7,
-          d.8 ∙ (λ i. Some (record { node = x; behind = link; job = r.1 i })),
-          d.9,
-          d.10,
-          (λ i. (0, None) ∷ (d.3 ++ (2 + 2 * x, d.2) ∷ (1 + 2 * x, Some (r.1 i)) ∷ [])),
-          d.12,
-          d.13,
-          is,
-          omega arith,
-          d.14,
+          d.answer,
+          d.own,
+          d.owns,
+          d.turn.0,
+          d.turn.1,
+          d.turn.2,
+          d.next ∙ (λ i. Some (record { node = x; behind = link; job = r.1 i })),
+          d.mine,
+          d.apart,
+          (λ i. (0, None) ∷ (d.own ++ (2 + 2 * x, d.answer) ∷ (1 + 2 * x, Some (r.1 i)) ∷ [])),
+          d.low.0,
+          d.low.1,
+          runs,
+          d.enough,
+          d.paid,
           r.2,
         ),
         r.3,

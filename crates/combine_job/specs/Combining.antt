@@ -3,7 +3,7 @@ use Rattle.std.specs.Prelude.{◌≡◌, ◌≢◌, ℕ, ◌+◌, ◌-◌, ◌*�
 use Rattle.atomic_table.specs.Table.{rest}
 use Rattle.waiter_chain.specs.Goods.{Goods, Runs, Counts, part}
 use Rattle.waiter_chain.specs.Chains.{owed}
-use Rattle.waiter_chain.specs.Steps.{SeatState, OwnHand, SoundJob, entry, moved}
+use Rattle.waiter_chain.specs.Steps.{SeatState, OwnHand, SoundNext, entry, moved}
 use Rattle.waiter_chain.specs.Calls.{OwnsBy, Served}
 use Rattle.waiter_chain.specs.declared.view.Ownership.{Ownership}
 use Rattle.waiter_chain.specs.declared.view.Event.TheVariants.{LoadStatus}
@@ -20,12 +20,24 @@ module _ {P : Type 0} where
   abbrev pub held_state : ℕ → Option P → SeatState P → SeatState P
   held_state word y m = (moved m.0 Holding (entry m.0 LoadStatus (1 + 2 * m.0.number) word), (1 + 2 * m.0.number, y) ∷ [])
 
-  -- the owner has taken the slots of the next node, in which a job lies, the value that it found is in slot 0, and it has run no job of its own
-  abbrev pub HasJob : (Goods P → Type 0) → ℕ → Turn → ℕ → SeatState P → Type 0
-  HasJob rule slots t link m = (k : Ownership P) × (job : P) × (a : Option P) × (own : List (ℕ × Option P)) × (m.0.stage ≡ Owns k) × (k.first ≡ t.first) × (k.end ≡ t.end) × (k.mark ≡ t.mark)
-      × (k.next ≡ Some (record { node = t.first - 2; behind = link; job = job })) × OwnHand k.mine m.0.number own × (m.0.number ≢ t.first - 2)
-      × (m.1 ≡ (0, Some k.value) ∷ (own ++ (2 + 2 * (t.first - 2), a) ∷ (1 + 2 * (t.first - 2), Some job) ∷ [])) × (1 < t.first) × (2 * t.first < slots + 3)
-      × Counts (owed k.mine) [] 0 × SoundJob rule k.value (part m.0.quota m.0.own) (t.first - 2) job
+-- the owner has taken the slots of the next node, in which a job lies, and what these jobs of its own, of which it pays for so many, made of the value that it found stands in slot 0
+pub record HasJob {P : Type 0} (relates : P → P → P → P → Type 0) (rule : Goods P → Type 0) (slots count : ℕ) (ran : List (P × P)) (t : Turn) (link : ℕ) (m : SeatState P) : Type 0 where
+  pub notes : Ownership P
+  pub job : P
+  pub answer : Option P
+  pub own : List (ℕ × Option P)
+  pub now : P
+  pub owns : m.0.stage ≡ Owns notes
+  pub turn : (notes.first ≡ t.first) × (notes.end ≡ t.end) × (notes.mark ≡ t.mark)
+  pub next : notes.next ≡ Some (record { node = t.first - 2; behind = link; job = job })
+  pub mine : OwnHand notes.mine m.0.number own
+  pub apart : m.0.number ≢ t.first - 2
+  pub hand : m.1 ≡ (0, Some now) ∷ (own ++ (2 + 2 * (t.first - 2), answer) ∷ (1 + 2 * (t.first - 2), Some job) ∷ [])
+  pub low : (1 < t.first) × (2 * t.first < slots + 3)
+  pub runs : Runs relates notes.value ran now
+  pub enough : count ≤ m.0.quota
+  pub paid : Counts (owed notes.mine) ran count
+  pub sound : SoundNext rule notes.value (part m.0.number m.0.quota m.0.own) (t.first - 2) job (owed notes.mine)
 
 module _ {V J O X : Type 0} (rooms : V → ℕ) (means : V → J → Result O X → V → Type 0) where
   -- the owner has taken the slots of the next node, in which this job lies; slot 0 is empty, and this is what jobs of its own, of which it pays for so many, made of the value

@@ -1,6 +1,7 @@
 -- Parcels as the freight of a chain: jobs on a value with a room, and the one history of the jobs that ran.
 use Rattle.std.specs.Prelude.{◌≡◌, ℕ, ◌+◌, ◌≤◌, ◌<◌, Result, Option, Some, None, List, cond, nat_lt}
 use mathlib.Core.Option.{some, none, Option as Maybe}
+use lib.ListN.{get_elem?}
 use Rattle.view_sums.specs.Sums.{total, same}
 use Rattle.waiter_chain.specs.Goods.{Goods, Part, Runs, below}
 use Rattle.waiter_chain.specs.declared.view.Opening.{Opening}
@@ -20,6 +21,10 @@ module _ {V J O X : Type 0} (rooms : V → ℕ) (means : V → J → Result O X 
   Related v j a w = (k : Kept V) × (l : Kept V) × (job : J) × (answer : JobAnswer O X) × (v ≡ Value k) × (w ≡ Value l) × (j ≡ Posted job) × (a ≡ Answered answer)
       × (answer.at ≡ k.ran) × (l.ran ≡ k.ran + 1) × means k.value job answer.result l.value × (rooms k.value ≤ rooms l.value + 1)
 
+  -- the job ran on some value, and this is its answer
+  abbrev pub WasRun : Parcel V J O X × Parcel V J O X → Type 0
+  WasRun x = (v : Parcel V J O X) × (w : Parcel V J O X) × Related v x.0 x.1 w
+
 module _ {V J O X : Type 0} where
   -- a first value: no job ran on it, and it has room for the quota
   abbrev pub Admits : (V → ℕ) → Parcel V J O X → ℕ → Type 0
@@ -31,9 +36,6 @@ module _ {V J O X : Type 0} where
 
   abbrev pub IsJob : (J → Type 0) → Parcel V J O X → Type 0
   IsJob is_ready v = (j : J) × (v ≡ Posted j) × is_ready j
-
-  abbrev pub IsAnswer : Parcel V J O X → Type 0
-  IsAnswer v = (a : JobAnswer O X) × (v ≡ Answered a)
 
   -- the kept value, where this is one
   abbrev pub kept_in : Parcel V J O X → Option (Kept V)
@@ -50,6 +52,14 @@ module _ {V J O X : Type 0} where
   -- how often the position p is among the answers of these jobs
   abbrev pub places : ℕ → List (Parcel V J O X × Parcel V J O X) → ℕ
   places p xs = total (λ x. place p x.1) xs
+
+  -- where this is an answer, the answers of these jobs stand at positions below its own
+  abbrev pub ComesAfter : List (Parcel V J O X × Parcel V J O X) → Parcel V J O X → Type 0
+  ComesAfter xs a = (answer : JobAnswer O X) → a ≡ Answered answer → (p : ℕ) → answer.at ≤ p → places p xs ≡ 0
+
+  -- the answer that waits for a pass comes after all in its own list
+  abbrev pub AllAfter : List (Part (Parcel V J O X)) → (ℕ → Maybe (Parcel V J O X × Parcel V J O X)) → Type 0
+  AllAfter ps answered = (i : ℕ) (y : Part (Parcel V J O X)) (x : Parcel V J O X × Parcel V J O X) → get_elem? ps i ≡ some y → answered y.number ≡ some x → ComesAfter y.own x.1
 
   -- the answers of these jobs have the positions below n, each once
   abbrev pub EachOnce : List (Parcel V J O X × Parcel V J O X) → ℕ → Type 0
@@ -79,8 +89,10 @@ module _ {V J O X : Type 0} (rooms : V → ℕ) (means : V → J → Result O X 
     -- the jobs in the passes' own lists and those whose answers wait, each with its answer, are those of the history: by every weight, so each as often as there
     pub answers : (w : Parcel V J O X × Parcel V J O X → ℕ) → all_own w g.parts + below (weight w) g.answered o.nodes ≡ total w history
     pub jobs : (n : ℕ) (x : Parcel V J O X) → g.posted n ≡ some x → IsJob is_ready x
-    -- what waits for a node is the answer of a job
-    pub told : (n : ℕ) (x : Parcel V J O X × Parcel V J O X) → g.answered n ≡ some x → IsAnswer x.1
+    -- what waits for a node is a job that ran, with its answer
+    pub told : (n : ℕ) (x : Parcel V J O X × Parcel V J O X) → g.answered n ≡ some x → WasRun rooms means x
+    -- and its position is above all in the list of that node's pass
+    pub after : AllAfter g.parts g.answered
     -- there is room for all quotas, and for the posted jobs that have not run
     pub room : quotas g.parts + below one g.posted o.nodes ≤ rooms now.value
     pub paid : now.ran + (quotas g.parts + below one g.posted o.nodes) ≤ o.quota

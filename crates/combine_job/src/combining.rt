@@ -1,5 +1,6 @@
 //! A pass posts a job in a chain and collects its answer, and an owner runs the jobs of others.
 ghost use Rattle.std.specs.Prelude.{◌≡◌, ℕ, ◌+◌, ◌*◌, ◌^◌, ◌<◌, ◌≤◌, [], ◌∷◌, ◌++◌, Some};
+ghost use Rattle.waiter_chain.specs.Goods.{part};
 ghost use Rattle.waiter_chain.specs.Steps.{entry, collected, SoundAnswer};
 ghost use Rattle.waiter_chain.specs.Calls.{IsIdle, ArrivedAs};
 ghost use Rattle.waiter_chain.specs.declared.turn.Kind.TheVariants.{WithJob};
@@ -41,7 +42,7 @@ pub fn collect<V: Room, J: Job<V>>(
     pass: &mut ChainPass<Parcel<V, J>>,
 ) -> JobAnswer<J::Out, J::Fault>
     requires own { pass.old.seat.table_id ≡ chain.now.table.shared.table_id }
-    requires done { (job : _) × (a : _) × (pass.old.seat.me.0.stage ≡ Done job a) × (pass.old.seat.me.1 ≡ (2 + 2 * pass.old.seat.me.0.number, Some a) ∷ []) × SoundAnswer (Ruled V.rooms J.means J.is_ready chain.now.table.shared.key) pass.old.seat.me.0.number job a }
+    requires done { (job : _) × (a : _) × (pass.old.seat.me.0.stage ≡ Done job a) × (pass.old.seat.me.1 ≡ (2 + 2 * pass.old.seat.me.0.number, Some a) ∷ []) × SoundAnswer (Ruled V.rooms J.means J.is_ready chain.now.table.shared.key) (part pass.old.seat.me.0.number pass.old.seat.me.0.quota pass.old.seat.me.0.own) job a }
     ensures own { (pass.new.seat.table_id ≡ pass.old.seat.table_id) × (pass.new.seat.id ≡ pass.old.seat.id) }
     ensures collected { (job : _) × (pass.old.seat.me.0.stage ≡ Done job (Answered result)) × (pass.new.seat.me ≡ (collected pass.old.seat.me.0 (job, Answered result) (pass.old.seat.me.0.steps ++ entry pass.old.seat.me.0 SetStatus (1 + 2 * pass.old.seat.me.0.number) 0 ∷ []), [])) }
 {

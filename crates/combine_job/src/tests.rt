@@ -3,7 +3,7 @@ ghost use Rattle.std.specs.Prelude.{◌≡◌, ◌+◌, ◌*◌, ◌≤◌, [], 
 ghost use Rattle.waiter_chain.specs.Calls.{IsIdle, Won};
 ghost use Rattle.waiter_chain.specs.declared.view.Entry.{Entry};
 ghost use Rattle.waiter_chain.specs.declared.view.Stage.TheVariants.{Behind};
-ghost use Rattle.combine_job.specs.Parcels.{Ruled};
+ghost use Rattle.combine_job.specs.Parcels.{Related, Ruled};
 ghost use Rattle.combine_job.specs.Combining.{HasJob, HasValue};
 
 use crate::combining::{collect, post, run_posted};
@@ -118,7 +118,7 @@ fn find_job<A: Abort, V: Room, J: Job<V>>(
     requires own { pass.old.seat.table_id ≡ chain.now.table.shared.table_id }
     requires won { (m : _) × (e : Entry) × Won (Ruled V.rooms J.means J.is_ready chain.now.table.shared.key) chain.now.table.shared.table_id.slots turn m e pass.old.seat.me }
     ensures own { pass.new.seat.table_id ≡ pass.old.seat.table_id }
-    ensures found { HasJob (Ruled V.rooms J.means J.is_ready chain.now.table.shared.key) chain.now.table.shared.table_id.slots result.0 result.1 pass.new.seat.me }
+    ensures found { HasJob (Related V.rooms J.means) (Ruled V.rooms J.means J.is_ready chain.now.table.shared.key) chain.now.table.shared.table_id.slots 0 [] result.0 result.1 pass.new.seat.me }
 {
     let none = OwnRuns::<Parcel<V, J>>::new();
     match chain.next(pass, turn, &none) {
@@ -144,7 +144,7 @@ fn run_found<V: Room, J: Job<V>>(
     link: u64,
 ) -> (Turn, Kept<V>)
     requires own { pass.old.seat.table_id ≡ chain.now.table.shared.table_id }
-    requires found { HasJob (Ruled V.rooms J.means J.is_ready chain.now.table.shared.key) chain.now.table.shared.table_id.slots turn link pass.old.seat.me }
+    requires found { HasJob (Related V.rooms J.means) (Ruled V.rooms J.means J.is_ready chain.now.table.shared.key) chain.now.table.shared.table_id.slots 0 [] turn link pass.old.seat.me }
     ensures own { pass.new.seat.table_id ≡ pass.old.seat.table_id }
     ensures ran { HasValue chain.now.table.shared.table_id.slots result.0 result.1 pass.new.seat.me }
 {

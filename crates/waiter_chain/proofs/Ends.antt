@@ -14,7 +14,7 @@ use Rattle.waiter_chain.specs.Chains.{part_of, desk, Desk, owed, front, line_wei
 use Rattle.waiter_chain.specs.Steps.{SeatState}
 use Rattle.view_sums.specs.Sums.{map-set}
 use Rattle.waiter_chain.proofs.Rules.{line_empty, desk-same, put-other, put-here, done-other, low_number, one_owner, restaged-own}
-use Rattle.waiter_chain.proofs.Settles.{mine_owed}
+use Rattle.waiter_chain.proofs.Serves.{mine_owed}
 use Rattle.waiter_chain.proofs.Frees.{held_by, live-owner, owner_seat, owner_apart}
 
 module _ {P : Type 0} where

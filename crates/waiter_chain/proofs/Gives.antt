@@ -18,7 +18,7 @@ use Rattle.view_sums.specs.Sums.{map-set, same, same-refl, same-eq}
 use Rattle.waiter_chain.proofs.Rules.{has, awake, queued-words, desk-same, noted-same, put-other, put-here, waits-other, done-other, covers-own, covers_awake, once, low_node, low_number, one_owner, restaged, restaged-two, parts-same}
 use Rattle.waiter_chain.proofs.Frees.{held_by, live-owner, owner_seat, owner_lines, owner_apart}
 use Rattle.waiter_chain.proofs.Grants.{line_cut, with_status, keeps-status, waits_there}
-use Rattle.waiter_chain.proofs.Settles.{mine_owed}
+use Rattle.waiter_chain.proofs.Serves.{mine_owed}
 use Rattle.waiter_chain.proofs.Ends.{ended_with}
 
 module _ {P : Type 0} (rule : Goods P → Type 0) (nodes : ℕ) where

@@ -66,7 +66,7 @@ module _ {P : Type 0} (rule : Goods P → Type 0) (nodes : ℕ) where
         subst (λ (x : ℕ). Lawful rule nodes (stepped s k x id m.1 (moved m.0 (Done i f.0) e) (takes (2 + 2 * n) (Some f.0)))) (sym three) f.2,
         λ c j z. (
           (λ small. absurd (omega (arith, three))),
-          (λ _. subst (λ (x : ℕ × P). (a : P) × ◌≡◌ {A = SeatState P} (moved m.0 (Done i f.0) e, (2 + 2 * n, Some f.0) ∷ m.1) (moved m.0 (Done x.1 a) e, (2 + 2 * n, Some a) ∷ m.1) × SoundAnswer known n x.1 a) (same-behind b c i j (sym mine ∙ z)) (f.0, refl, (goods o.value o.posted o.answered (map part_of s.views), tells _ o.goods_rule, f.3))),
+          (λ _. subst (λ (x : ℕ × P). (a : P) × ◌≡◌ {A = SeatState P} (moved m.0 (Done i f.0) e, (2 + 2 * n, Some f.0) ∷ m.1) (moved m.0 (Done x.1 a) e, (2 + 2 * n, Some a) ∷ m.1) × SoundAnswer known (part m.0.number m.0.quota m.0.own) x.1 a) (same-behind b c i j (sym mine ∙ z)) (f.0, refl, (goods o.value o.posted o.answered (map part_of s.views), tells _ o.goods_rule, (id, at_map part_of s.views id m.0 me), f.3))),
           λ big. absurd (omega (arith, three)),
         ),
       ))
@@ -86,7 +86,7 @@ module _ {P : Type 0} (rule : Goods P → Type 0) (nodes : ℕ) where
         λ c j z. (
           (λ small. absurd (omega (arith, big))),
           (λ three. absurd (omega (arith, big, three))),
-          λ _. subst (λ (x : ℕ × P). Ranged slots x.0 (r - 4) × ((v : P) × ◌≡◌ {A = SeatState P} (w, (0, Some y) ∷ (1 + 2 * n, Some i) ∷ m.1) (moved m.0 (Owns (ownership_back x.0 (r - 4) x.1 v)) e, (0, Some v) ∷ (1 + 2 * n, Some x.1) ∷ m.1) × SoundJob known v (part m.0.quota m.0.own) n x.1)) (same-behind b c i j (sym mine ∙ z))
+          λ _. subst (λ (x : ℕ × P). Ranged slots x.0 (r - 4) × ((v : P) × ◌≡◌ {A = SeatState P} (w, (0, Some y) ∷ (1 + 2 * n, Some i) ∷ m.1) (moved m.0 (Owns (ownership_back x.0 (r - 4) x.1 v)) e, (0, Some v) ∷ (1 + 2 * n, Some x.1) ∷ m.1) × SoundJob known v (part m.0.number m.0.quota m.0.own) n x.1)) (same-behind b c i j (sym mine ∙ z))
               (ranged nodes slots b (r - 4) o.older (sym long ∙ o.long) (λ l d. low_node rule nodes s o l (omega arith)) q.old_line q.low_end, (y, refl, (goods o.value o.posted o.answered (map part_of s.views), tells _ o.goods_rule, refl, (id, at_map part_of s.views id m.0 me), f.3))),
         ),
       )))

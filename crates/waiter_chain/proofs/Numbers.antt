@@ -76,7 +76,7 @@ module _ {P : Type 0} (rule : Goods P → Type 0) (nodes : ℕ) where
         long = o.long;
         covered = λ n. omega (arith, sum (covers n), o.covered n, covers-cut n c q v live-now some-left fits);
         standing = λ g waking. omega (arith, sum (weigh g), o.standing g waking, (waking r.number).0);
-        asleep = λ j u e. at (λ x. x.gone ≡ true → (x.stage ≡ Idle) × (part_of x ≡ part 0 [])) j u e (λ z. absurd (true≢false (sym z ∙ live-now))) (λ z. absurd (true≢false (sym z))) (λ i z. o.asleep i u z);
+        asleep = λ j u e. at (λ x. x.gone ≡ true → (x.stage ≡ Idle) × (part_of x ≡ part 0 0 [])) j u e (λ z. absurd (true≢false (sym z ∙ live-now))) (λ z. absurd (true≢false (sym z))) (λ i z. o.asleep i u z);
         owned = λ j u k e. at (λ x. x.stage ≡ Owns k → o.owner ≡ turn x.number k) j u e (o.owned id v k me) (λ z. absurd (cc)) (λ i z. o.owned i u k z);
         seated = λ j u e. at (λ x. x.gone ≡ false → Seated x.stage (desk s.words s.homes o.posted o.answered x.number)) j u e (o.seated id v me) (λ _. o.unused id v r.number me live-now new-there (λ z. omega arith)) (λ i z. o.seated i u z);
         unused = λ j u n e. at (λ x. x.gone ≡ false → 0 < covers n x → n ≢ x.number → AtRest (desk s.words s.homes o.posted o.answered n)) j u e
@@ -90,12 +90,12 @@ module _ {P : Type 0} (rule : Goods P → Type 0) (nodes : ℕ) where
         finished = o.finished;
         held = o.held;
         funded = omega (arith, sum (λ (x : View P). x.quota), o.funded);
-        goods_rule = subst (λ ps. rule (goods o.value o.posted o.answered ps)) (sym (map-append part_of (set s.views id l) (r ∷ []) ∙ ap (λ ps. ps ++ part q [] ∷ []) (map-set part_of s.views id l)))
-            (law (goods o.value o.posted o.answered (map part_of s.views)) id (v.quota - q) q v.own o.goods_rule (at_map part_of s.views id v me ∙ ap (λ (x : ℕ). some (part x v.own)) (omega arith)));
+        goods_rule = subst (λ ps. rule (goods o.value o.posted o.answered ps)) (sym (map-append part_of (set s.views id l) (r ∷ []) ∙ ap (λ ps. ps ++ part r.number q [] ∷ []) (map-set part_of s.views id l)))
+            (law (goods o.value o.posted o.answered (map part_of s.views)) id v.number r.number (v.quota - q) q v.own o.goods_rule (at_map part_of s.views id v me ∙ ap (λ (x : ℕ). some (part v.number x v.own)) (omega arith)));
       }
 
-  pub joins : Merges rule → (id : ℕ) (v : View P) (other : ℕ) (w : View P) → v.gone ≡ false → w.gone ≡ false → w.stage ≡ Idle → Joins (Lawful rule nodes) id v other w (joined v w) spent
-  joins law id v other w live-v live-w idle s o me apart there =
+  pub joins : Merges rule → (id : ℕ) (v : View P) (other : ℕ) (w : View P) → v.gone ≡ false → w.gone ≡ false → v.stage ≡ Idle → w.stage ≡ Idle → Joins (Lawful rule nodes) id v other w (joined v w) spent
+  joins law id v other w live-v live-w rest idle s o me apart there =
       let b : View P = joined v w in let vs : List (View P) = set s.views id b in
       let them : get_elem? s.views other ≡ some w = sym (set_else s.views id other b apart) ∙ there in
       let sum : (f : View P → ℕ) → total f (set vs other spent) + f v + f w ≡ total f s.views + f b + f spent = λ f. omega (arith, total-set f s.views id v b me, total-set f vs other w spent there) in
@@ -113,7 +113,7 @@ module _ {P : Type 0} (rule : Goods P → Type 0) (nodes : ℕ) where
         long = o.long;
         covered = λ n. omega (arith, sum (covers n), o.covered n, covers-joined n v w live-v live-w);
         standing = λ g waking. omega (arith, sum (weigh g), o.standing g waking, (waking 0).0, (waking w.number).0, ap (g w.number) idle);
-        asleep = λ j u e. at (λ x. x.gone ≡ true → (x.stage ≡ Idle) × (part_of x ≡ part 0 [])) j u e (λ z. absurd (true≢false (sym z ∙ live-v))) (λ _. (refl, refl)) (λ i z. o.asleep i u z);
+        asleep = λ j u e. at (λ x. x.gone ≡ true → (x.stage ≡ Idle) × (part_of x ≡ part 0 0 [])) j u e (λ z. absurd (true≢false (sym z ∙ live-v))) (λ _. (refl, refl)) (λ i z. o.asleep i u z);
         owned = λ j u k e. at (λ x. x.stage ≡ Owns k → o.owner ≡ turn x.number k) j u e (o.owned id v k me) (λ z. absurd (cc)) (λ i z. o.owned i u k z);
         seated = λ j u e. at (λ x. x.gone ≡ false → Seated x.stage (desk s.words s.homes o.posted o.answered x.number)) j u e (λ _. o.seated id v me live-v) (λ z. absurd (true≢false z)) (λ i z. o.seated i u z);
         unused = λ j u n e. at (λ x. x.gone ≡ false → 0 < covers n x → n ≢ x.number → AtRest (desk s.words s.homes o.posted o.answered n)) j u e
@@ -130,6 +130,6 @@ module _ {P : Type 0} (rule : Goods P → Type 0) (nodes : ℕ) where
         finished = o.finished;
         held = o.held;
         funded = omega (arith, sum (λ (x : View P). x.quota), o.funded);
-        goods_rule = subst (λ ps. rule (goods o.value o.posted o.answered ps)) (sym (map-set part_of vs other spent ∙ ap (λ ps. set ps other (part 0 [])) (map-set part_of s.views id b)))
-            (law (goods o.value o.posted o.answered (map part_of s.views)) id other v.quota w.quota v.own w.own o.goods_rule apart (at_map part_of s.views id v me) (at_map part_of s.views other w them));
+        goods_rule = subst (λ ps. rule (goods o.value o.posted o.answered ps)) (sym (map-set part_of vs other spent ∙ ap (λ ps. set ps other (part 0 0 [])) (map-set part_of s.views id b)))
+            (law (goods o.value o.posted o.answered (map part_of s.views)) id other v.number w.number v.quota w.quota v.own w.own o.goods_rule (subst (λ (g : Stage P). Seated g (desk s.words s.homes o.posted o.answered v.number)) rest (o.seated id v me live-v)).1.2 apart (at_map part_of s.views id v me) (at_map part_of s.views other w them));
       }

@@ -8,9 +8,9 @@ use Rattle.waiter_chain.specs.declared.view.OwnSlot.TheVariants.{Unused, InHand,
 use Rattle.waiter_chain.specs.declared.view.Ownership.{Ownership}
 use Rattle.waiter_chain.specs.declared.view.Entry.{Entry}
 use Rattle.waiter_chain.specs.declared.view.Stage.TheVariants.{Cleared, Ready, Owns}
-use Rattle.waiter_chain.specs.Steps.{SeatState, SoundJob, Wins, Ranged, OwnHand, ownership, ownership_with, passed, retook, with_next, run_slot, settled_notes, settled, served, with_steps, paid, moved, stays, entry, posting, link_seen, job_done}
+use Rattle.waiter_chain.specs.Steps.{SeatState, SoundNext, Wins, Ranged, OwnHand, ownership, ownership_with, passed, retook, with_next, run_slot, settled_notes, settled, served, with_steps, paid, moved, stays, entry, posting, link_seen, job_done}
 use Rattle.waiter_chain.specs.Goods.{Goods, part}
-use Rattle.waiter_chain.specs.Chains.{entering}
+use Rattle.waiter_chain.specs.Chains.{entering, owed}
 use Rattle.waiter_chain.specs.Calls.{Won, WonWith, OwnsBy, SawOthers, TookAs, FollowsAs, WaitsBehind, readied_state, EnteredAs, LinkSeen, MayServe, Served}
 use Rattle.waiter_chain.specs.declared.turn.Turn.{Turn}
 use Rattle.waiter_chain.specs.declared.turn.Kind.{Kind}
@@ -106,7 +106,7 @@ module _ {P : Type 0} where
               s.1,
               turns ne ∙ (λ i. ((seen i).0, turned_by 2 (seen i).1)) ∙ (λ i. (moved m.0 (Owns (with_next s.0 x r f.0)) (entry m.0 LoadLink (2 + 2 * x) r), append_assoc m.1 ((2 + 2 * x, f.1) ∷ []) ((1 + 2 * x, Some f.0) ∷ []) i)),
               (λ z. f.3 (z ∙ sym first)),
-              subst (λ (x : ℕ). SoundJob known s.0.value (part m.0.quota m.0.own) x f.0) first f.4,
+              subst (λ (x : ℕ). SoundNext known s.0.value (part m.0.number m.0.quota m.0.own) x f.0 (owed s.0.mine)) first f.4,
             )
             ),
       )

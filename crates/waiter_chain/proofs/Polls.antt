@@ -129,7 +129,7 @@ module _ {P : Type 0} (rule : Goods P → Type 0) (nodes : ℕ) where
             (parts-same rule nodes s.views id m.0 w y o.posted o.answered me refl o.goods_rule)),
         λ c z. (
           (λ small. absurd (omega arith)),
-          λ _. subst (λ (x : ℕ). Ranged slots x (r - 4) × ((y' : P) × ◌≡◌ {A = SeatState P} (w, (0, Some y) ∷ m.1) (moved m.0 (Owns (ownership x (r - 4) 1 false y')) (entry m.0 LoadStatus k r), (0, Some y') ∷ m.1) × Sound known y' (part m.0.quota m.0.own))) (behind-injective P b c None None (sym mine ∙ z))
+          λ _. subst (λ (x : ℕ). Ranged slots x (r - 4) × ((y' : P) × ◌≡◌ {A = SeatState P} (w, (0, Some y) ∷ m.1) (moved m.0 (Owns (ownership x (r - 4) 1 false y')) (entry m.0 LoadStatus k r), (0, Some y') ∷ m.1) × Sound known y' (part m.0.number m.0.quota m.0.own))) (behind-injective P b c None None (sym mine ∙ z))
               (ranged nodes slots b (r - 4) o.older (sym long ∙ o.long) (λ i l. low_node rule nodes s o i (omega arith)) q.old_line q.low_end, (y, refl, sound rule nodes known tells s o id m.0 me)),
         ),
       ))

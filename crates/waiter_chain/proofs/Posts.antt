@@ -49,8 +49,8 @@ module _ {P : Type 0} (is_job : P → Type 0) (rule : Goods P → Type 0) (nodes
       let link : (i : ℕ) → get_or words (2 + 2 * i) 0 ≡ get_or s.words (2 + 2 * i) 0 = λ i. get_or-set_other s.words 0 (2 + 2 * i) (n + 2) 0 (λ e. omega arith) in
       let goods-now : (stage : Stage P) → rule (goods o.value posted o.answered (map part_of (set s.views id (paid m.0 q stage e)))) = λ stage.
       subst (λ ps. rule (goods o.value posted o.answered ps)) (sym (map-set part_of s.views id (paid m.0 q stage e)))
-      (law (goods o.value o.posted o.answered (map part_of s.views)) id q n m.0.own job o.goods_rule low (at_map part_of s.views id m.0 me ∙ ap (λ (x : ℕ). some (part x m.0.own)) enough) good seat.1.1 seat.1.2) in
-      let told : (stage : Stage P) (x : P) → job ≡ x → SoundJob known o.value (part q m.0.own) n x = λ stage x same. (goods o.value posted o.answered (map part_of (set s.views id (paid m.0 q stage e))), tells _ (goods-now stage), refl, (id, at_map part_of (set s.views id (paid m.0 q stage e)) id (paid m.0 q stage e) (set_here s.views id (paid m.0 q stage e) (there s.views id m.0 me))), put-here o.posted n (some job) ∙ ap (λ (z : P). some z) same) in
+      (law (goods o.value o.posted o.answered (map part_of s.views)) id q n m.0.own job o.goods_rule low (at_map part_of s.views id m.0 me ∙ ap (λ (x : ℕ). some (part n x m.0.own)) enough) good seat.1.1 seat.1.2) in
+      let told : (stage : Stage P) (x : P) → job ≡ x → SoundJob known o.value (part n q m.0.own) n x = λ stage x same. (goods o.value posted o.answered (map part_of (set s.views id (paid m.0 q stage e))), tells _ (goods-now stage), refl, (id, at_map part_of (set s.views id (paid m.0 q stage e)) id (paid m.0 q stage e) (set_here s.views id (paid m.0 q stage e) (there s.views id m.0 me))), put-here o.posted n (some job) ∙ ap (λ (z : P). some z) same) in
       subst (λ (x : ℕ). Goes rule nodes s 0 id m (posting known (step slots 0 x 0 none) m) x) (sym is)
       (dite (ℕ_discrete found 0)
       (λ free. let t = was_free nodes s.words s.homes at o.older o.newer o.value o.owner free o.held in

@@ -274,7 +274,7 @@ module _ {P : Type 0} (rule : Goods P → Type 0) (nodes : ℕ) where
         omega (arith, terms_le (weigh ruling) s.views i j v u ne at there, ap (ruling v.number) mine, ap (ruling u.number) theirs, o.standing ruling (λ m. (refl, refl, (λ j. refl), (λ j. refl), λ j a. refl)), line-ruling P o.older, line-ruling P o.newer, line-ruling P o.done, owner-le o.owner)
 
   -- what the freight's rule says to a pass
-  pub sound : (known : Goods P → Type 0) → ((g : Goods P) → rule g → known g) → (s : State (Option P) (View P)) (o : Lawful rule nodes s) (id : ℕ) (v : View P) → get_elem? s.views id ≡ some v → Sound known o.value (part v.quota v.own)
+  pub sound : (known : Goods P → Type 0) → ((g : Goods P) → rule g → known g) → (s : State (Option P) (View P)) (o : Lawful rule nodes s) (id : ℕ) (v : View P) → get_elem? s.views id ≡ some v → Sound known o.value (part v.number v.quota v.own)
   sound known tells s o id v me = let g : Goods P = goods o.value o.posted o.answered (map part_of s.views) in (g, tells g o.goods_rule, refl, (id, at_map part_of s.views id v me))
 
   -- the step that makes the word k n, for which `then` is to hold

@@ -9,17 +9,25 @@ use Rattle.atomic_table.proofs.Lists.{set_here, set_else, at_map}
 use Rattle.waiter_chain.specs.declared.view.View.{View}
 use Rattle.waiter_chain.specs.declared.view.Next.{Next}
 use Rattle.waiter_chain.specs.declared.view.Ownership.{Ownership}
+use Rattle.waiter_chain.specs.declared.view.OwnSlot.{OwnSlot}
+use Rattle.waiter_chain.specs.declared.view.OwnSlot.TheVariants.{Unused, InHand, Unrun}
 use Rattle.waiter_chain.specs.declared.view.Entry.{Entry}
 use Rattle.waiter_chain.specs.declared.view.Stage.TheVariants.{Behind, Owns}
 use Rattle.waiter_chain.specs.Goods.{Goods, goods, part, put, Serves}
-use Rattle.waiter_chain.specs.Chains.{Waiter, Line, part_of, desk, Desk, Seated, Noted, Waits, Taken, AllWait, HasTaken, HasSeen, front, line_weight, turn, owner_weight, Queued, Lawful}
-use Rattle.waiter_chain.specs.Steps.{SeatState, SoundJob, with_steps, with_next, served}
+use Rattle.waiter_chain.specs.Chains.{Waiter, Line, part_of, desk, Desk, Seated, Mine, owed, Noted, Waits, Taken, AllWait, HasTaken, HasSeen, front, line_weight, turn, owner_weight, Queued, Lawful}
+use Rattle.waiter_chain.specs.Steps.{SeatState, SoundNext, with_steps, with_next, served}
 use Rattle.view_sums.specs.Sums.{same, same-refl, same-eq, set_self, map-set_same}
 use Rattle.waiter_chain.proofs.Rules.{has, awake, owns-injective, noted-same, desk-same, put-other, put-here, waits-other, done-other, covers-own, covers_awake, once, low_node, one_owner, unmoved, restaged}
 use Rattle.waiter_chain.proofs.Frees.{held_by, live-owner, owner_seat}
 use Rattle.waiter_chain.proofs.Grants.{line_cut, waits_there}
 
 module _ {P : Type 0} where
+  -- what the owner has posted is its job that has not run
+  pub mine_owed : (y : OwnSlot P) (d : Desk P) → Mine y d → d.posted ≡ owed y
+  mine_owed Unused d h = h.1
+  mine_owed InHand d h = h.1
+  mine_owed (Unrun j) d h = h.1
+
   -- who noted a job finds that job answered
   answers : (j answer : P) (d d' : Desk P) → d.posted ≡ some j → d.answered ≡ none → d'.answered ≡ some (j, answer) → (y : Option P) → Noted y d → Noted y d'
   answers j answer d d' was empty now None h = tt
@@ -31,7 +39,7 @@ module _ {P : Type 0} (rule : Goods P → Type 0) (nodes : ℕ) where
   -- a load of the next node's link, where its status was found to be 2
   pub takes-job : (known : Goods P → Type 0) → ((g : Goods P) → rule g → known g) → (slots id : ℕ) (m : SeatState P) (k : Ownership P) (i : ℕ) (steps : ℕ → List Entry) → m.0.stage ≡ Owns k → k.next ≡ None → k.job_waits ≡ true → k.first ≢ k.end → i ≡ 2 + 2 * (k.first - 2)
       → Allows (Lawful rule nodes) slots id m i (λ x. x)
-      (λ r n. (r ≡ 0 → n ≡ (with_steps m.0 m.0.stage (steps r), m.1)) × (r ≢ 0 → (j : P) × (a : Option P) × (n ≡ (with_steps m.0 (Owns (with_next k (k.first - 2) r j)) (steps r), (2 + 2 * (k.first - 2), a) ∷ (1 + 2 * (k.first - 2), Some j) ∷ m.1)) × (m.0.number ≢ k.first - 2) × SoundJob known k.value (part m.0.quota m.0.own) (k.first - 2) j))
+      (λ r n. (r ≡ 0 → n ≡ (with_steps m.0 m.0.stage (steps r), m.1)) × (r ≢ 0 → (j : P) × (a : Option P) × (n ≡ (with_steps m.0 (Owns (with_next k (k.first - 2) r j)) (steps r), (2 + 2 * (k.first - 2), a) ∷ (1 + 2 * (k.first - 2), Some j) ∷ m.1)) × (m.0.number ≢ k.first - 2) × SoundNext known k.value (part m.0.number m.0.quota m.0.own) (k.first - 2) j (owed k.mine)))
   takes-job known tells slots id m k i steps mine no-next seen some-left is s o long me _ =
       let x : ℕ = k.first - 2 in let r : ℕ = get_or s.words i 0 in let n : ℕ = m.0.number in
       let at : ℕ → Desk P = desk s.words s.homes o.posted o.answered in
@@ -90,7 +98,7 @@ module _ {P : Type 0} (rule : Goods P → Type 0) (nodes : ℕ) where
               tt,
             )
             (subst (λ ps. rule (goods o.value o.posted o.answered ps)) (sym (map-set_same part_of s.views id m.0 w me refl)) o.goods_rule)),
-        ((λ z. absurd (linked z)), λ _. (j, a, refl, ne, (goods o.value o.posted o.answered (map part_of s.views), tells _ o.goods_rule, sym h.4, (id, at_map part_of s.views id m.0 me), waits.0.4.1))),
+        ((λ z. absurd (linked z)), λ _. (j, a, refl, ne, (goods o.value o.posted o.answered (map part_of s.views), tells _ o.goods_rule, sym h.4, (id, at_map part_of s.views id m.0 me), waits.0.4.1, mine_owed k.mine (at n) (owner_seat rule nodes s o id m.0 k me mine).0))),
       ))
 
   -- the store of 3 in the status of the node whose job was run

@@ -15,15 +15,10 @@ use Rattle.view_sums.specs.Sums.{there, map-set, same, same-refl}
 use Rattle.waiter_chain.proofs.Rules.{awake, owns-injective, desk-same, put-other, put-here, waits-other, done-other, taken-other, once, low_number, one_owner, restaged-own}
 use Rattle.waiter_chain.specs.declared.view.Entry.{Entry}
 use Rattle.waiter_chain.specs.Steps.{SeatState, with_steps, run_slot, settled_notes, settled, served}
-use Rattle.waiter_chain.proofs.Serves.{serves}
+use Rattle.waiter_chain.proofs.Serves.{mine_owed, serves}
 use Rattle.waiter_chain.proofs.Frees.{held_by, live-owner, owner_seat, owner_apart}
 
 module _ {P : Type 0} where
-  pub mine_owed : (y : OwnSlot P) (d : Desk P) → Mine y d → d.posted ≡ owed y
-  mine_owed Unused d h = h.1
-  mine_owed InHand d h = h.1
-  mine_owed (Unrun j) d h = h.1
-
   mine_run : (y : OwnSlot P) (d d' : Desk P) → d'.job ≡ d.job → d'.posted ≡ none → Mine y d → Mine (run_slot y) d'
   mine_run Unused d d' a b h = ((h.0.0, a ∙ h.0.1), b)
   mine_run InHand d d' a b h = (a ∙ h.0, b)

@@ -2,7 +2,7 @@
 use Rattle.std.specs.Prelude.{◌≡◌, ◌≢◌, ◌⊎◌, ℕ, ◌+◌, ◌-◌, ◌*◌, ◌<◌, ◌≤◌, List, [], ◌∷◌, ◌++◌, length, Option, Some, None, Bool, true, false}
 use Rattle.atomic_table.specs.Table.{rest}
 use Rattle.waiter_chain.specs.Goods.{Goods, part, Runs, Counts}
-use Rattle.waiter_chain.specs.Steps.{SeatState, Ranged, OwnHand, HasOwn, Sound, SoundJob, SoundAnswer, WinsBack, ownership, ownership_with, passed, retook, seen_job, with_next, settled_notes, served, settled, collected, paid, linked_by, with_steps, entry, moved, noted, stays, ended}
+use Rattle.waiter_chain.specs.Steps.{SeatState, Ranged, OwnHand, HasOwn, Sound, SoundJob, SoundNext, SoundAnswer, WinsBack, ownership, ownership_with, passed, retook, seen_job, with_next, settled_notes, served, settled, collected, paid, linked_by, with_steps, entry, moved, noted, stays, ended}
 use Rattle.waiter_chain.specs.Chains.{entering, owed, kind as status_of}
 use Rattle.waiter_chain.specs.declared.turn.Kind.{Kind}
 use Rattle.waiter_chain.specs.declared.turn.Kind.TheVariants as kind
@@ -47,7 +47,7 @@ module _ {P : Type 0} where
 
   -- by the step e the pass has become the owner: the value is in its hand, and the freight's rule holds of it
   abbrev pub Won : (Goods P → Type 0) → ℕ → Turn → SeatState P → Entry → SeatState P → Type 0
-  Won rule slots t m e n = (y : P) × (n ≡ (moved m.0 (Owns (ownership t.first t.end t.mark false y)) e, (0, Some y) ∷ [])) × Ranged slots t.first t.end × Sound rule y (part m.0.quota m.0.own)
+  Won rule slots t m e n = (y : P) × (n ≡ (moved m.0 (Owns (ownership t.first t.end t.mark false y)) e, (0, Some y) ∷ [])) × Ranged slots t.first t.end × Sound rule y (part m.0.number m.0.quota m.0.own)
 
   -- one exchange found 0: the turn's chain is empty
   abbrev pub TriedIn : (Goods P → Type 0) → ℕ → SeatState P → SeatState P → Turn → Type 0
@@ -68,7 +68,7 @@ module _ {P : Type 0} where
 
   -- by the step e the pass has posted a job and become the owner: its job is in its own slot, the value is in its hand, and the freight's rule holds of both
   abbrev pub WonWith : (Goods P → Type 0) → ℕ → Turn → SeatState P → Entry → SeatState P → Type 0
-  WonWith rule slots t m e n = (y : P) × (job : P) × (m.1 ≡ (1 + 2 * m.0.number, Some job) ∷ []) × (n ≡ (paid m.0 (m.0.quota - 1) (Owns (ownership_with t.first job y)) e, (0, Some y) ∷ m.1)) × Ranged slots t.first t.end × SoundJob rule y (part (m.0.quota - 1) m.0.own) m.0.number job
+  WonWith rule slots t m e n = (y : P) × (job : P) × (m.1 ≡ (1 + 2 * m.0.number, Some job) ∷ []) × (n ≡ (paid m.0 (m.0.quota - 1) (Owns (ownership_with t.first job y)) e, (0, Some y) ∷ m.1)) × Ranged slots t.first t.end × SoundJob rule y (part m.0.number (m.0.quota - 1) m.0.own) m.0.number job
 
   -- and has then swapped itself in: the owner found 0, and who is behind another found that word
   abbrev pub EnteredAs : (Goods P → Type 0) → ℕ → Kind → ℕ → SeatState P → SeatState P → Entered → Type 0
@@ -86,7 +86,7 @@ module _ {P : Type 0} where
   abbrev pub PolledAs : (Goods P → Type 0) → ℕ → ℕ → Option P → SeatState P → SeatState P → Polled → Type 0
   PolledAs rule slots b h m n (polled.Still word) = (word ≡ status_of h) × (n ≡ stays m (entry m.0 LoadStatus (1 + 2 * m.0.number) word))
   PolledAs rule slots b None m n polled.Done = ⊥
-  PolledAs rule slots b (Some job) m n polled.Done = (a : P) × (n ≡ (moved m.0 (Done job a) (entry m.0 LoadStatus (1 + 2 * m.0.number) 3), (2 + 2 * m.0.number, Some a) ∷ m.1)) × SoundAnswer rule m.0.number job a
+  PolledAs rule slots b (Some job) m n polled.Done = (a : P) × (n ≡ (moved m.0 (Done job a) (entry m.0 LoadStatus (1 + 2 * m.0.number) 3), (2 + 2 * m.0.number, Some a) ∷ m.1)) × SoundAnswer rule (part m.0.number m.0.quota m.0.own) job a
   PolledAs rule slots b None m n (polled.Owner t) = Won rule slots t m (entry m.0 LoadStatus (1 + 2 * m.0.number) (t.end + 4)) n × (t.first ≡ b) × (t.mark ≡ 1)
   PolledAs rule slots b (Some job) m n (polled.Owner t) = (t.first ≡ b) × (t.mark ≡ 1) × Ranged slots t.first t.end × WinsBack rule m job t.first t.end (entry m.0 LoadStatus (1 + 2 * m.0.number) (t.end + 4)) n
 
@@ -98,7 +98,7 @@ module _ {P : Type 0} where
   -- the next node's link was loaded: 0, or the word that it waits behind, and then its two slots are in the owner's hand
   abbrev pub LinkSeen : (Goods P → Type 0) → ℕ → SeatState P → SeatState P → ℕ → Type 0
   LinkSeen rule x m n link = (link ≡ 0 → n ≡ stays m (entry m.0 LoadLink (2 + 2 * x) link))
-      × (link ≢ 0 → (k : Ownership P) × (job : P) × (a : Option P) × (m.0.stage ≡ Owns k) × (n ≡ (moved m.0 (Owns (with_next k x link job)) (entry m.0 LoadLink (2 + 2 * x) link), m.1 ++ (2 + 2 * x, a) ∷ (1 + 2 * x, Some job) ∷ [])) × (m.0.number ≢ x) × SoundJob rule k.value (part m.0.quota m.0.own) x job)
+      × (link ≢ 0 → (k : Ownership P) × (job : P) × (a : Option P) × (m.0.stage ≡ Owns k) × (n ≡ (moved m.0 (Owns (with_next k x link job)) (entry m.0 LoadLink (2 + 2 * x) link), m.1 ++ (2 + 2 * x, a) ∷ (1 + 2 * x, Some job) ∷ [])) × (m.0.number ≢ x) × SoundNext rule k.value (part m.0.number m.0.quota m.0.own) x job (owed k.mine))
 
   -- the owner has run these jobs of its own, of which it pays for so many, and then the next node's job: the answer lies in that node's slot, and the value is in hand
   abbrev pub MayServe : (P → P → P → P → Type 0) → ℕ → ℕ → List (P × P) → Turn → ℕ → SeatState P → Type 0

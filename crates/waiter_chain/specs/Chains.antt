@@ -52,7 +52,7 @@ module _ {P : Type 0} where
   covers n v = cond v.gone 0 (within n (v.number, v.spare) + total (within n) v.past)
 
   abbrev pub part_of : View P → Part P
-  part_of v = part v.quota v.own
+  part_of v = part v.number v.quota v.own
 
 -- all that the table has of one node: its two words, its two slots, the job that it has posted and that has not run, and its job that ran with the answer that waits for it
 pub record Desk (P : Type 0) : Type 0 where
@@ -221,7 +221,7 @@ module _ {P : Type 0} (rule : Goods P → Type 0) where
     -- the passes that wait or own are those of the two lines, those that are done, the owner, and the node whose slots it has taken
     pub standing : (g : Weight P) → Waking g → total (weigh g) s.views ≡ line_weight g older + line_weight g newer + line_weight g done + owner_weight g owner
     -- a pass that was taken in is idle, and has nothing left
-    pub asleep : (j : ℕ) (v : View P) → get_elem? s.views j ≡ some v → v.gone ≡ true → (v.stage ≡ Idle) × (part_of v ≡ part 0 [])
+    pub asleep : (j : ℕ) (v : View P) → get_elem? s.views j ≡ some v → v.gone ≡ true → (v.stage ≡ Idle) × (part_of v ≡ part 0 0 [])
     pub owned : (j : ℕ) (v : View P) (k : Ownership P) → get_elem? s.views j ≡ some v → v.stage ≡ Owns k → owner ≡ turn v.number k
     pub seated : (j : ℕ) (v : View P) → get_elem? s.views j ≡ some v → v.gone ≡ false → Seated v.stage (desk s.words s.homes posted answered v.number)
     -- a number that a pass covers beside its own is at rest
@@ -239,4 +239,4 @@ module _ {P : Type 0} (rule : Goods P → Type 0) (nodes : ℕ) where
   -- a pass that covers every number closes on a value that meets the rule, where no job is posted and no answer waits, beside its own part and others that have nothing left
   abbrev pub Closes : View P → Option P → Type 0
   Closes v out = ((n : ℕ) → n < nodes → 0 < covers n v)
-      → (g : Goods P) × rule g × (out ≡ Some g.value) × ((n : ℕ) → n < nodes → (g.posted n ≡ none) × (g.answered n ≡ none)) × ((w : Part P → ℕ) → w (part 0 []) ≡ 0 → total w g.parts ≡ w (part_of v))
+      → (g : Goods P) × rule g × (out ≡ Some g.value) × ((n : ℕ) → n < nodes → (g.posted n ≡ none) × (g.answered n ≡ none)) × ((w : Part P → ℕ) → w (part 0 0 []) ≡ 0 → total w g.parts ≡ w (part_of v))

@@ -3,8 +3,9 @@ use Rattle.std.specs.Prelude.{◌≡◌, ◌≢◌, ℕ, zero, suc, ◌+◌, ◌
 use mathlib.Core.Option.{some, none, Option as Maybe}
 use lib.ListN.{get_elem?}
 
--- what a pass has left of the quota, and its own jobs that ran, each with its answer
+-- the number of a pass, what it has left of the quota, and its own jobs that ran, each with its answer
 pub record Part (P : Type 0) : Type 0 where
+  pub number : ℕ
   pub quota : ℕ
   pub own : List (P × P)
 
@@ -30,8 +31,8 @@ module _ {A : Type 0} where
   below w f (suc n) = below w f n + w (f n)
 
 module _ {P : Type 0} where
-  abbrev pub part : ℕ → List (P × P) → Part P
-  part q xs = record { quota = q; own = xs }
+  abbrev pub part : ℕ → ℕ → List (P × P) → Part P
+  part n q xs = record { number = n; quota = q; own = xs }
 
   abbrev pub goods : P → (ℕ → Maybe P) → (ℕ → Maybe (P × P)) → List (Part P) → Goods P
   goods v jobs answers ps = record { value = v; posted = jobs; answered = answers; parts = ps }
@@ -41,7 +42,7 @@ module _ {P : Type 0} where
   resting v ps = goods v nothing nothing ps
 
   abbrev pub opened : P → ℕ → Goods P
-  opened v q = resting v (part q [] ∷ [])
+  opened v q = resting v (part 0 q [] ∷ [])
 
 module _ {P : Type 0} where
   -- what these jobs cost: a job that the owner had posted was paid for when it was posted, and is among them
@@ -65,14 +66,14 @@ module _ {P : Type 0} (rule : Goods P → Type 0) (nodes : ℕ) where
   -- a node posts a job, and pays for it
   abbrev pub Posts : (P → Type 0) → Type 0
   Posts is_job = (g : Goods P) (i q n : ℕ) (xs : List (P × P)) (job : P)
-      → rule g → n < nodes → get_elem? g.parts i ≡ some (part (q + 1) xs) → is_job job → g.posted n ≡ none → g.answered n ≡ none
-      → rule (goods g.value (put g.posted n (some job)) g.answered (slice_set g.parts i (part q xs)))
+      → rule g → n < nodes → get_elem? g.parts i ≡ some (part n (q + 1) xs) → is_job job → g.posted n ≡ none → g.answered n ≡ none
+      → rule (goods g.value (put g.posted n (some job)) g.answered (slice_set g.parts i (part n q xs)))
 
   -- the owner, with the number n, puts a value back after jobs of its own
   abbrev pub Ends : (P → P → P → P → Type 0) → Type 0
   Ends relates = (g : Goods P) (i n before after : ℕ) (xs : List (P × P)) (ran : List (P × P)) (w : P)
-      → rule g → n < nodes → get_elem? g.parts i ≡ some (part before xs) → Runs relates g.value ran w → Pays (g.posted n) ran before after → g.answered n ≡ none
-      → rule (goods w (put g.posted n none) g.answered (slice_set g.parts i (part after (xs ++ ran))))
+      → rule g → n < nodes → get_elem? g.parts i ≡ some (part n before xs) → Runs relates g.value ran w → Pays (g.posted n) ran before after → g.answered n ≡ none
+      → rule (goods w (put g.posted n none) g.answered (slice_set g.parts i (part n after (xs ++ ran))))
 
   -- the job of the node n was run on the value
   abbrev pub Serves : (P → P → P → P → Type 0) → Type 0
@@ -83,18 +84,18 @@ module _ {P : Type 0} (rule : Goods P → Type 0) (nodes : ℕ) where
   -- a node takes its job and the answer into its own list
   abbrev pub Collects : Type 0
   Collects = (g : Goods P) (i q n : ℕ) (xs : List (P × P)) (job answer : P)
-      → rule g → n < nodes → get_elem? g.parts i ≡ some (part q xs) → g.answered n ≡ some (job, answer)
-      → rule (goods g.value g.posted (put g.answered n none) (slice_set g.parts i (part q (xs ++ (job, answer) ∷ []))))
+      → rule g → n < nodes → get_elem? g.parts i ≡ some (part n q xs) → g.answered n ≡ some (job, answer)
+      → rule (goods g.value g.posted (put g.answered n none) (slice_set g.parts i (part n q (xs ++ (job, answer) ∷ []))))
 
 module _ {P : Type 0} (rule : Goods P → Type 0) where
-  -- a pass is cut in two
+  -- a pass is cut in two, of which the second gets the number m
   abbrev pub Cuts : Type 0
-  Cuts = (g : Goods P) (i q r : ℕ) (xs : List (P × P))
-      → rule g → get_elem? g.parts i ≡ some (part (q + r) xs)
-      → rule (goods g.value g.posted g.answered (slice_set g.parts i (part q xs) ++ part r [] ∷ []))
+  Cuts = (g : Goods P) (i n m q r : ℕ) (xs : List (P × P))
+      → rule g → get_elem? g.parts i ≡ some (part n (q + r) xs)
+      → rule (goods g.value g.posted g.answered (slice_set g.parts i (part n q xs) ++ part m r [] ∷ []))
 
-  -- a pass takes in another
+  -- a pass for which no answer waits takes in another
   abbrev pub Merges : Type 0
-  Merges = (g : Goods P) (i j q r : ℕ) (xs ys : List (P × P))
-      → rule g → j ≢ i → get_elem? g.parts i ≡ some (part q xs) → get_elem? g.parts j ≡ some (part r ys)
-      → rule (goods g.value g.posted g.answered (slice_set (slice_set g.parts i (part (q + r) (xs ++ ys))) j (part 0 [])))
+  Merges = (g : Goods P) (i j n m q r : ℕ) (xs ys : List (P × P))
+      → rule g → g.answered n ≡ none → j ≢ i → get_elem? g.parts i ≡ some (part n q xs) → get_elem? g.parts j ≡ some (part m r ys)
+      → rule (goods g.value g.posted g.answered (slice_set (slice_set g.parts i (part n (q + r) (xs ++ ys))) j (part 0 0 [])))

@@ -1,9 +1,10 @@
 -- What each step tells: of the step, the seat before, the number found (at a store, the number stored) and the seat after.
 use Rattle.std.specs.Prelude.{◌≡◌, ◌≢◌, ℕ, ◌+◌, ◌-◌, ◌*◌, ◌<◌, ◌≤◌, List, [], ◌∷◌, ◌++◌, length, Bool, true, false, cond, Option, Some, None}
-use mathlib.Core.Option.{some}
+use mathlib.Core.Option.{some, Option as Maybe}
 use lib.ListN.{get_elem?}
 use Rattle.atomic_table.specs.Table.{Me, Step, rest}
 use Rattle.waiter_chain.specs.Goods.{Goods, Part, part}
+use Rattle.waiter_chain.specs.Chains.{owed}
 use Rattle.waiter_chain.specs.declared.view.View.{View}
 use Rattle.waiter_chain.specs.declared.view.Next.{Next}
 use Rattle.waiter_chain.specs.declared.view.OwnSlot.{OwnSlot}
@@ -138,13 +139,17 @@ module _ {P : Type 0} where
   abbrev pub SoundJob : (Goods P → Type 0) → P → Part P → ℕ → P → Type 0
   SoundJob rule y own n job = (g : Goods P) × rule g × (g.value ≡ y) × ((i : ℕ) × (get_elem? g.parts i ≡ some own)) × (g.posted n ≡ some job)
 
-  -- the freight's rule holds where this answer waits for this node, to this job
-  abbrev pub SoundAnswer : (Goods P → Type 0) → ℕ → P → P → Type 0
-  SoundAnswer rule n job answer = (g : Goods P) × rule g × (g.answered n ≡ some (job, answer))
+  -- the same, and the pass has posted this job itself, or none
+  abbrev pub SoundNext : (Goods P → Type 0) → P → Part P → ℕ → P → Maybe P → Type 0
+  SoundNext rule y own n job mine = (g : Goods P) × rule g × (g.value ≡ y) × ((i : ℕ) × (get_elem? g.parts i ≡ some own)) × (g.posted n ≡ some job) × (g.posted own.number ≡ mine)
+
+  -- the freight's rule holds where this answer, to this job, waits for the pass that has this part
+  abbrev pub SoundAnswer : (Goods P → Type 0) → Part P → P → P → Type 0
+  SoundAnswer rule own job answer = (g : Goods P) × rule g × ((i : ℕ) × (get_elem? g.parts i ≡ some own)) × (g.answered own.number ≡ some (job, answer))
 
   -- the seat becomes the owner, with the value
   abbrev pub Wins : (Goods P → Type 0) → SeatState P → ℕ → ℕ → ℕ → Entry → SeatState P → Type 0
-  Wins rule m first end mark e n = (y : P) × (n ≡ (moved m.0 (Owns (ownership first end mark false y)) e, (0, Some y) ∷ m.1)) × Sound rule y (part m.0.quota m.0.own)
+  Wins rule m first end mark e n = (y : P) × (n ≡ (moved m.0 (Owns (ownership first end mark false y)) e, (0, Some y) ∷ m.1)) × Sound rule y (part m.0.number m.0.quota m.0.own)
 
   abbrev pub stays : SeatState P → Entry → SeatState P
   stays m e = (moved m.0 m.0.stage e, m.1)
@@ -170,7 +175,7 @@ module _ {P : Type 0} where
   -- a pass with a job in its own slot swaps itself in: the job is posted, and paid for
   abbrev pub posting : (Goods P → Type 0) → Telling P
   posting rule st m r n = (job : P) → m.1 ≡ (1 + 2 * m.0.number, Some job) ∷ []
-      → (r ≡ 0 → (y : P) × (n ≡ (paid m.0 (m.0.quota - 1) (Owns (ownership_with st.first job y)) (entry m.0 SwapIn st.word r), (0, Some y) ∷ m.1)) × SoundJob rule y (part (m.0.quota - 1) m.0.own) m.0.number job)
+      → (r ≡ 0 → (y : P) × (n ≡ (paid m.0 (m.0.quota - 1) (Owns (ownership_with st.first job y)) (entry m.0 SwapIn st.word r), (0, Some y) ∷ m.1)) × SoundJob rule y (part m.0.number (m.0.quota - 1) m.0.own) m.0.number job)
       × (r ≢ 0 → n ≡ (paid m.0 (m.0.quota - 1) (Behind r (Some job)) (entry m.0 SwapIn st.word r), []))
 
   -- a waiting pass stores what its swap found in its link
@@ -184,13 +189,13 @@ module _ {P : Type 0} where
 
   -- the seat becomes the owner, with the value and with its own posted job
   abbrev pub WinsBack : (Goods P → Type 0) → SeatState P → P → ℕ → ℕ → Entry → SeatState P → Type 0
-  WinsBack rule m job first end e n = (y : P) × (n ≡ (moved m.0 (Owns (ownership_back first end job y)) e, (0, Some y) ∷ (1 + 2 * m.0.number, Some job) ∷ m.1)) × SoundJob rule y (part m.0.quota m.0.own) m.0.number job
+  WinsBack rule m job first end e n = (y : P) × (n ≡ (moved m.0 (Owns (ownership_back first end job y)) e, (0, Some y) ∷ (1 + 2 * m.0.number, Some job) ∷ m.1)) × SoundJob rule y (part m.0.number m.0.quota m.0.own) m.0.number job
 
   -- a node with a job waits still, or finds that its job has run, or becomes the owner and takes its job back
   abbrev pub polled_job : (Goods P → Type 0) → Telling P
   polled_job rule st m r n = (b : ℕ) (j : P) → m.0.stage ≡ Behind b (Some j)
       → (r < 3 → (r ≡ 2) × (n ≡ stays m (entry m.0 LoadStatus st.word r)))
-      × (r ≡ 3 → (a : P) × (n ≡ (moved m.0 (Done j a) (entry m.0 LoadStatus st.word r), (2 + 2 * m.0.number, Some a) ∷ m.1)) × SoundAnswer rule m.0.number j a)
+      × (r ≡ 3 → (a : P) × (n ≡ (moved m.0 (Done j a) (entry m.0 LoadStatus st.word r), (2 + 2 * m.0.number, Some a) ∷ m.1)) × SoundAnswer rule (part m.0.number m.0.quota m.0.own) j a)
       × (4 ≤ r → Ranged st.slots b (r - 4) × WinsBack rule m j b (r - 4) (entry m.0 LoadStatus st.word r) n)
 
   -- a waiting node loads its own status, whether it has posted a job or not
@@ -228,7 +233,7 @@ module _ {P : Type 0} where
   abbrev pub link_seen : (Goods P → Type 0) → Telling P
   link_seen rule st m r n = (k : Ownership P) × (m.0.stage ≡ Owns k) × (r ≡ 0 → n ≡ stays m (entry m.0 LoadLink st.word r))
       × (r ≢ 0 → (job : P) × (a : Option P) × (n ≡ (moved m.0 (Owns (with_next k (k.first - 2) r job)) (entry m.0 LoadLink st.word r), (2 + 2 * (k.first - 2), a) ∷ (1 + 2 * (k.first - 2), Some job) ∷ m.1)) × (m.0.number ≢ k.first - 2)
-      × SoundJob rule k.value (part m.0.quota m.0.own) (k.first - 2) job)
+      × SoundNext rule k.value (part m.0.number m.0.quota m.0.own) (k.first - 2) job (owed k.mine))
 
   -- the next node's job has run: the owner gives its two slots back, and settles these jobs of its own
   abbrev pub job_done : ℕ → List (P × P) → Telling P

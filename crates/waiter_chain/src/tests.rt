@@ -34,9 +34,9 @@ impl Freight for Mark {
 
     ghost collects = { λ o g i q n xs job answer r low me filled. tt };
 
-    ghost cuts = { λ o g i q r xs s me. tt };
+    ghost cuts = { λ o g i n m q r xs s me. tt };
 
-    ghost merges = { λ o g i j q r xs ys s apart me them. tt };
+    ghost merges = { λ o g i j n m q r xs ys s empty apart me them. tt };
 }
 
 // The owner goes on, and makes the next node the owner, where one waits: this one.

@@ -13,10 +13,10 @@ unwrap-requires g c = let d = c.requires.done in
     is_there _ d.1 (c.move_slot.ensures.moved [] [] (Some d.1) hand (stands_alone _ _)).0
 
 pub into_answer-answer-requires : goal.into_answer-answer-requires
-into_answer-answer-requires g c = let d = c.requires.done in let t = d.4.1.told c.args.pass.now.seat.me.0.number (d.0, d.1) d.4.2 in
+into_answer-answer-requires g c = let d = c.requires.done in let t = (d.4.1.told c.args.pass.now.seat.me.0.number (d.0, d.1) d.4.3).2 in
     let hand = alone _ (2 + 2 * c.args.pass.now.seat.me.0.number) (Some d.1) c.args.pass.now.seat.me.1 (omega (arith, c.number.ensures)) d.3 in
     let there = (c.move_slot.ensures.moved [] [] (Some d.1) hand (stands_alone _ _)).0 in
-    (t.0, inside c.unwrap.result d.1 (sym c.unwrap.ensures ∙ there) ∙ t.1)
+    (t.3, inside c.unwrap.result d.1 (sym c.unwrap.ensures ∙ there) ∙ t.7)
 
 pub rest-requires-clause-done : goal.rest-requires-clause-done
 rest-requires-clause-done g c = let d = c.requires.done in

@@ -28,4 +28,4 @@ returns-clause-found g c =
     let first = subst (λ (x : ℕ × List _). MayEnd relates x.0 x.1 m) (λ i. (sym c.new-none.ensures.1 i, sym c.new-none.ensures.0 i))
     (won_ends relates (Ruled g.V.Room.rooms g.J.Job.means g.J.Job.is_ready c.args.chain.now.table.shared.key) _ _ w.0 _ w.1 w.2) in
     let still = subst (λ (x : ℕ × List _). MayEnd relates x.0 x.1 l) (λ i. (c.new-none.ensures.1 i, c.new-none.ensures.0 i)) (still_ends relates _ _ _ c.args.turn t c.in-Waits.node m l a first) in
-    found relates _ _ t s c.link_of-link.new.pass.seat.me c.link_of-link.result (seen_turn _ _ t l s kind.WithJob a.2 c.in-WithJob.ensures.kind) (seen_ends relates 0 [] _ l s kind.WithJob still c.in-WithJob.ensures.kind) a.0 c.if-link-eq0.false c.link_of-link.ensures.link
+    found relates _ _ 0 [] t s c.link_of-link.new.pass.seat.me c.link_of-link.result (seen_turn _ _ t l s kind.WithJob a.2 c.in-WithJob.ensures.kind) (seen_ends relates 0 [] _ l s kind.WithJob still c.in-WithJob.ensures.kind) a.0 c.if-link-eq0.false c.link_of-link.ensures.link

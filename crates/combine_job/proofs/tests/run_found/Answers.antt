@@ -7,37 +7,37 @@ use Rattle.combine_job.proofs.tests.run_found.Goals as goal
 
 pub move_slot-value-requires-clause-held : goal.move_slot-value-requires-clause-held
 move_slot-value-requires-clause-held g c = let d = c.requires.found in let m0 = c.args.pass.now.seat.me in
-    front_held d.0.mine (c.args.turn.first - 2) d.3 m0.0 d.9 d.10 (Some d.0.value) d.2 (Some d.1) m0 (ap (λ z. (m0.0, z)) d.11)
+    front_held d.notes.mine (c.args.turn.first - 2) d.own m0.0 d.mine d.apart (Some d.now) d.answer (Some d.job) m0 (ap (λ z. (m0.0, z)) d.hand)
 
 pub unwrap-requires : goal.unwrap-requires
 unwrap-requires g c = let d = c.requires.found in let m0 = c.args.pass.now.seat.me in
-    let v = front_moved d.0.mine (c.args.turn.first - 2) d.3 m0.0 d.9 d.10 (Some d.0.value) d.2 (Some d.1) None c.move_slot-value.result m0 c.move_slot-value.new.pass.seat.me (ap (λ z. (m0.0, z)) d.11) c.move_slot-value.ensures.moved in
-    is_there _ d.0.value v.0
+    let v = front_moved d.notes.mine (c.args.turn.first - 2) d.own m0.0 d.mine d.apart (Some d.now) d.answer (Some d.job) None c.move_slot-value.result m0 c.move_slot-value.new.pass.seat.me (ap (λ z. (m0.0, z)) d.hand) c.move_slot-value.ensures.moved in
+    is_there _ d.now v.0
 
 pub into_kept-kept-requires : goal.into_kept-kept-requires
 into_kept-kept-requires g c = let d = c.requires.found in let m0 = c.args.pass.now.seat.me in
-    let v = front_moved d.0.mine (c.args.turn.first - 2) d.3 m0.0 d.9 d.10 (Some d.0.value) d.2 (Some d.1) None c.move_slot-value.result m0 c.move_slot-value.new.pass.seat.me (ap (λ z. (m0.0, z)) d.11) c.move_slot-value.ensures.moved in
-    (d.15.1.now, inside c.unwrap.result d.0.value (sym c.unwrap.ensures ∙ v.0) ∙ sym d.15.2 ∙ d.15.1.is)
+    let v = front_moved d.notes.mine (c.args.turn.first - 2) d.own m0.0 d.mine d.apart (Some d.now) d.answer (Some d.job) None c.move_slot-value.result m0 c.move_slot-value.new.pass.seat.me (ap (λ z. (m0.0, z)) d.hand) c.move_slot-value.ensures.moved in
+    let r = d.sound.1 in (r.now, inside c.unwrap.result d.now (sym c.unwrap.ensures ∙ v.0) ∙ sym d.runs ∙ sym d.sound.2 ∙ r.is)
 
 pub run_posted-requires-clause-taken : goal.run_posted-requires-clause-taken
 run_posted-requires-clause-taken g c = let d = c.requires.found in let m0 = c.args.pass.now.seat.me in
-    let v = front_moved d.0.mine (c.args.turn.first - 2) d.3 m0.0 d.9 d.10 (Some d.0.value) d.2 (Some d.1) None c.move_slot-value.result m0 c.move_slot-value.new.pass.seat.me (ap (λ z. (m0.0, z)) d.11) c.move_slot-value.ensures.moved in
-    let is : d.0.value ≡ Value c.into_kept-kept.result = sym (inside c.unwrap.result d.0.value (sym c.unwrap.ensures ∙ v.0)) ∙ c.into_kept-kept.ensures in
+    let v = front_moved d.notes.mine (c.args.turn.first - 2) d.own m0.0 d.mine d.apart (Some d.now) d.answer (Some d.job) None c.move_slot-value.result m0 c.move_slot-value.new.pass.seat.me (ap (λ z. (m0.0, z)) d.hand) c.move_slot-value.ensures.moved in
+    let is : d.now ≡ Value c.into_kept-kept.result = sym (inside c.unwrap.result d.now (sym c.unwrap.ensures ∙ v.0)) ∙ c.into_kept-kept.ensures in
     let slots : ℕ = c.args.chain.now.table.shared.table_id.slots in
     subst (λ (x : ℕ × List _). MayRun g.V.Room.rooms g.J.Job.means g.J.Job.is_ready slots x.0 x.1 c.args.turn c.args.link c.into_kept-kept.result c.move_slot-value.new.pass.seat.me) (λ i. (sym c.new-none.ensures.1 i, sym c.new-none.ensures.0 i))
-    (may_run g.V.Room.rooms g.J.Job.means g.J.Job.is_ready c.args.chain.now.table.shared.key slots c.args.turn c.args.link c.into_kept-kept.result m0 c.move_slot-value.new.pass.seat.me d (omega (arith, c.args.chain.now.sized.1, c.args.chain.now.sized.3)) is v.1).0
+    (may_run g.V.Room.rooms g.J.Job.means g.J.Job.is_ready c.args.chain.now.table.shared.key slots 0 [] c.args.turn c.args.link c.into_kept-kept.result m0 c.move_slot-value.new.pass.seat.me d (omega (arith, c.args.chain.now.sized.1, c.args.chain.now.sized.3)) (omega (arith, c.args.pass.now.low, c.args.pass.now.same.0, c.requires.own, c.args.chain.now.sized.1, c.args.chain.now.sized.3)) is v.1).0
 
 pub run_posted-requires-clause-room : goal.run_posted-requires-clause-room
 run_posted-requires-clause-room g c = let d = c.requires.found in let m0 = c.args.pass.now.seat.me in
-    let v = front_moved d.0.mine (c.args.turn.first - 2) d.3 m0.0 d.9 d.10 (Some d.0.value) d.2 (Some d.1) None c.move_slot-value.result m0 c.move_slot-value.new.pass.seat.me (ap (λ z. (m0.0, z)) d.11) c.move_slot-value.ensures.moved in
-    let is : d.0.value ≡ Value c.into_kept-kept.result = sym (inside c.unwrap.result d.0.value (sym c.unwrap.ensures ∙ v.0)) ∙ c.into_kept-kept.ensures in
-    (may_run g.V.Room.rooms g.J.Job.means g.J.Job.is_ready c.args.chain.now.table.shared.key c.args.chain.now.table.shared.table_id.slots c.args.turn c.args.link c.into_kept-kept.result m0 c.move_slot-value.new.pass.seat.me d (omega (arith, c.args.chain.now.sized.1, c.args.chain.now.sized.3)) is v.1).1
+    let v = front_moved d.notes.mine (c.args.turn.first - 2) d.own m0.0 d.mine d.apart (Some d.now) d.answer (Some d.job) None c.move_slot-value.result m0 c.move_slot-value.new.pass.seat.me (ap (λ z. (m0.0, z)) d.hand) c.move_slot-value.ensures.moved in
+    let is : d.now ≡ Value c.into_kept-kept.result = sym (inside c.unwrap.result d.now (sym c.unwrap.ensures ∙ v.0)) ∙ c.into_kept-kept.ensures in
+    (may_run g.V.Room.rooms g.J.Job.means g.J.Job.is_ready c.args.chain.now.table.shared.key c.args.chain.now.table.shared.table_id.slots 0 [] c.args.turn c.args.link c.into_kept-kept.result m0 c.move_slot-value.new.pass.seat.me d (omega (arith, c.args.chain.now.sized.1, c.args.chain.now.sized.3)) (omega (arith, c.args.pass.now.low, c.args.pass.now.same.0, c.requires.own, c.args.chain.now.sized.1, c.args.chain.now.sized.3)) is v.1).1
 
 pub run_posted-requires-clause-count : goal.run_posted-requires-clause-count
 run_posted-requires-clause-count g c = let d = c.requires.found in let m0 = c.args.pass.now.seat.me in
-    let v = front_moved d.0.mine (c.args.turn.first - 2) d.3 m0.0 d.9 d.10 (Some d.0.value) d.2 (Some d.1) None c.move_slot-value.result m0 c.move_slot-value.new.pass.seat.me (ap (λ z. (m0.0, z)) d.11) c.move_slot-value.ensures.moved in
-    let is : d.0.value ≡ Value c.into_kept-kept.result = sym (inside c.unwrap.result d.0.value (sym c.unwrap.ensures ∙ v.0)) ∙ c.into_kept-kept.ensures in
-    (may_run g.V.Room.rooms g.J.Job.means g.J.Job.is_ready c.args.chain.now.table.shared.key c.args.chain.now.table.shared.table_id.slots c.args.turn c.args.link c.into_kept-kept.result m0 c.move_slot-value.new.pass.seat.me d (omega (arith, c.args.chain.now.sized.1, c.args.chain.now.sized.3)) is v.1).2
+    let v = front_moved d.notes.mine (c.args.turn.first - 2) d.own m0.0 d.mine d.apart (Some d.now) d.answer (Some d.job) None c.move_slot-value.result m0 c.move_slot-value.new.pass.seat.me (ap (λ z. (m0.0, z)) d.hand) c.move_slot-value.ensures.moved in
+    let is : d.now ≡ Value c.into_kept-kept.result = sym (inside c.unwrap.result d.now (sym c.unwrap.ensures ∙ v.0)) ∙ c.into_kept-kept.ensures in
+    (may_run g.V.Room.rooms g.J.Job.means g.J.Job.is_ready c.args.chain.now.table.shared.key c.args.chain.now.table.shared.table_id.slots 0 [] c.args.turn c.args.link c.into_kept-kept.result m0 c.move_slot-value.new.pass.seat.me d (omega (arith, c.args.chain.now.sized.1, c.args.chain.now.sized.3)) (omega (arith, c.args.pass.now.low, c.args.pass.now.same.0, c.requires.own, c.args.chain.now.sized.1, c.args.chain.now.sized.3)) is v.1).2
 
 pub returns-clause-ran : goal.returns-clause-ran
 returns-clause-ran g c = has_value g.V.Room.rooms g.J.Job.means _ _ _ c.args.turn c.args.link c.into_kept-kept.result c.move_slot-value.new.pass.seat.me c.run_posted.new.pass.seat.me _ _ c.run_posted.ensures.ran

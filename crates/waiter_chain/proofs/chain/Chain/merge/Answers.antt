@@ -6,7 +6,7 @@ use Rattle.waiter_chain.proofs.chain.Chain.merge.Goals as goal
 
 pub join_seat-requires : goal.join_seat-requires
 join_seat-requires g c = let p = c.args.pass.now in let o = c.args.self.now.table.shared.key in
-    (c.requires.own.0, c.requires.own.1, c.requires.idle.1.1, omega (arith, c.args.self.now.sized.0), joins (g.P.Freight.rule o) o.nodes (g.P.Freight.merges o) _ p.seat.me.0 _ c.args.other.me.0 p.same.3 c.requires.live.0 c.requires.idle.1.0)
+    (c.requires.own.0, c.requires.own.1, c.requires.idle.1.1, omega (arith, c.args.self.now.sized.0), joins (g.P.Freight.rule o) o.nodes (g.P.Freight.merges o) _ p.seat.me.0 _ c.args.other.me.0 p.same.3 c.requires.live.0 c.requires.idle.0.0 c.requires.idle.1.0)
 
 pub load-requires : goal.load-requires
 load-requires g c = let p = c.args.pass.now in let o = c.args.self.now.table.shared.key in let e = c.join_seat.ensures in
