@@ -3,7 +3,8 @@ use Rattle.std.specs.Prelude.{MatchOption}
 use Rattle.std.proofs.Common.{◌≡◌, ◌<◌, ◌+◌, ◌-◌, ◌*◌, ℕ, List, [], length, set, get_or, sym, refl, ap, ◌∙◌, subst, arith, Option, Some, None}
 use mathlib.Core.Logic.{dite}
 use native.Mathlib.Decide.{ℕ_discrete}
-use Rattle.query_rules.specs.Maps.{PlainMap, with_value, without}
+use Rattle.query_rules.specs.Maps.{PlainMap, with_value, without, written}
+use Rattle.map_cargo.specs.declared.entry.Entry.{Entry}
 use Rattle.map_cargo.specs.declared.entry.Made.{Made}
 use Rattle.map_cargo.specs.declared.entry.Part.{Part}
 use Rattle.map_cargo.specs.Cells.{Means, lookup}
@@ -11,7 +12,7 @@ use Rattle.map_cargo.specs.Openings.{map_made, unmade}
 use Rattle.map_cargo.specs.History.{IsSettled, words_of, plain_of}
 use Rattle.map_cargo.specs.Laws.{lookup_here, lookup_else}
 use Rattle.map_cargo.specs.Rows.{home, way, key_at, value_in, IsUsed, IsFree, LookedAt, Table, WithRow}
-use Rattle.map_cargo.specs.Steps.{rewrote, Reworded}
+use Rattle.map_cargo.specs.Steps.{rewrote, Drew, Reworded}
 use Rattle.map_cargo.proofs.Stores.{value_stored, table_of, means_of, counted}
 use Rattle.map_cargo.proofs.Tables.{with_here, with_else, with_old, with_new, without_here, without_else, without_one, found, absent, has_room, rewritten, filled}
 
@@ -80,3 +81,9 @@ taken_back lock cell key value p q q' r at first none same second h =
     let made : r.made ≡ p.made = second.made ∙ ap (λ (z : Part). z.made) same ∙ first.made in
     let maps : without (with_value (plain_of p cell) key value) key ≡ plain_of r cell = restored (plain_of p cell) key value (sym none) ∙ ap (λ (l : List (ℕ × Made)). map_made (lookup unmade l cell) cell) (sym made) in
     subst (λ (k : ℕ). IsSettled k r) (sym at) (subst (Means (words_of r cell)) maps h)
+
+-- a cell is settled behind a draw, where its words mean the map that the drawn write leaves
+pub settled_by_draw : (lock cell n : ℕ) (q r : Part) (e : Entry) (m : PlainMap) → lock ≡ cell → Drew 8 q r n e → Means (words_of q cell) m → written (plain_of q) e.query cell ≡ m → IsSettled lock r
+settled_by_draw lock cell n q r e m at drew means leaves =
+    subst (λ (k : ℕ). IsSettled k r) (sym at)
+    (subst (λ (l : List ℕ). Means l (plain_of r cell)) (sym (ap (λ (w : List (ℕ × List ℕ)). lookup [] w cell) drew.words)) (subst (Means (words_of q cell)) (sym (drew.plain cell ∙ leaves)) means))

@@ -1,18 +1,18 @@
-use Rattle.std.proofs.Common.{◌≡◌, ℕ, List, [], sym, refl, ap, ◌∙◌, subst, cond, eq-eqb}
+use Rattle.std.proofs.Common.{ℕ, List, sym, refl, ap, ◌∙◌, cond, eq-eqb}
 use Rattle.hall.specs.Passes.{view}
-use Rattle.query_rules.specs.Maps.{PlainMap, with_value, without, written}
+use Rattle.query_rules.specs.Maps.{without, written}
 use Rattle.map_cargo.specs.declared.entry.Entry.{Entry}
 use Rattle.map_cargo.specs.declared.entry.Made.{Made}
 use Rattle.map_cargo.specs.declared.entry.Part.{Part}
-use Rattle.map_cargo.specs.Cells.{Means, lookup}
-use Rattle.map_cargo.specs.History.{IsSettled, words_of, plain_of}
+use Rattle.map_cargo.specs.Cells.{lookup}
+use Rattle.map_cargo.specs.History.{plain_of}
 use Rattle.map_cargo.specs.Openings.{map_made, unmade}
-use Rattle.map_cargo.specs.Steps.{Drew, Reworded}
-use Rattle.hall.specs.Views.{standing}
+use Rattle.map_cargo.specs.Steps.{Reworded}
 use Rattle.hall.specs.declared.view.Standing.{Standing}
 use Rattle.hall.specs.declared.view.Standing.TheVariants.{Away}
 use Rattle.map_cargo.specs.Gaining.{still_settled}
 use Rattle.std.specs.Prelude.{slice_index_or}
+use Rattle.map_cargo.proofs.Meaning.{settled_by_draw}
 use Rattle.map_cargo.proofs.tests.ask_del.Goals as goal
 
 pub leave-requires-clause-settled : goal.leave-requires-clause-settled
@@ -23,12 +23,6 @@ pub leave-requires-2-clause-others : goal.leave-requires-2-clause-others
 leave-requires-2-clause-others g c =
     let x = c.exclusive-guard.ensures in
     λ k ne. ap (λ (l : List Standing). slice_index_or l k Away) (c.draw.ensures.pass.1.standings ∙ c.in-Some.ensures.pass.1.standings) ∙ x.others k (λ same. ne (same ∙ sym x.held.0))
-
--- a cell is settled behind a draw, where its words mean the map that the drawn write leaves
-settled_by_draw : (lock cell n : ℕ) (q r : Part) (e : Entry) (m : PlainMap) → lock ≡ cell → Drew 8 q r n e → Means (words_of q cell) m → written (plain_of q) e.query cell ≡ m → IsSettled lock r
-settled_by_draw lock cell n q r e m at drew means leaves =
-    subst (λ (k : ℕ). IsSettled k r) (sym at)
-    (subst (λ (l : List ℕ). Means l (plain_of r cell)) (sym (ap (λ (w : List (ℕ × List ℕ)). lookup [] w cell) drew.words)) (subst (Means (words_of q cell)) (sym (drew.plain cell ∙ leaves)) means))
 
 pub leave-requires-2-clause-settled : goal.leave-requires-2-clause-settled
 leave-requires-2-clause-settled g c =

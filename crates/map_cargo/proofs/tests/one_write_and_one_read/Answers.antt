@@ -1,20 +1,15 @@
-use Rattle.std.proofs.Common.{◌≡◌, ℕ, List, [], sym, refl, ap, ◌∙◌, subst, cond, eq-eqb}
+use Rattle.std.proofs.Common.{ℕ, List, ap, ◌∙◌}
 use Rattle.hall.specs.Passes.{view}
-use Rattle.query_rules.specs.Maps.{PlainMap, with_value, without, written}
+use Rattle.query_rules.specs.Maps.{with_value, written}
 use Rattle.map_cargo.specs.declared.entry.Entry.{Entry}
 use Rattle.map_cargo.specs.declared.entry.Made.{Made}
 use Rattle.map_cargo.specs.declared.entry.Part.{Part}
-use Rattle.map_cargo.specs.Cells.{Means, lookup}
-use Rattle.map_cargo.specs.History.{IsSettled, words_of, plain_of}
+use Rattle.map_cargo.specs.Cells.{lookup}
+use Rattle.map_cargo.specs.History.{plain_of}
 use Rattle.map_cargo.specs.Openings.{map_made, unmade}
-use Rattle.map_cargo.specs.Steps.{Drew, Reworded}
+use Rattle.map_cargo.specs.Steps.{Reworded}
+use Rattle.map_cargo.proofs.Meaning.{settled_by_draw}
 use Rattle.map_cargo.proofs.tests.one_write_and_one_read.Goals as goal
-
--- a cell is settled behind a draw, where its words mean the map that the drawn write leaves
-settled_by_draw : (lock cell n : ℕ) (q r : Part) (e : Entry) (m : PlainMap) → lock ≡ cell → Drew 8 q r n e → Means (words_of q cell) m → written (plain_of q) e.query cell ≡ m → IsSettled lock r
-settled_by_draw lock cell n q r e m at drew means leaves =
-    subst (λ (k : ℕ). IsSettled k r) (sym at)
-    (subst (λ (l : List ℕ). Means l (plain_of r cell)) (sym (ap (λ (w : List (ℕ × List ℕ)). lookup [] w cell) drew.words)) (subst (Means (words_of q cell)) (sym (drew.plain cell ∙ leaves)) means))
 
 pub leave-requires-clause-settled : goal.leave-requires-clause-settled
 leave-requires-clause-settled g c =
