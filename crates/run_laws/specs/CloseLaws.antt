@@ -25,11 +25,10 @@ use Rattle.hall.specs.Passes.{cargo_of, shape_of}
 use Rattle.hall.specs.declared.hall.Hall.{Hall}
 use Rattle.hall.specs.declared.view.View.{View}
 use Rattle.map_cargo.specs.declared.entry.Part.{Part}
-use Rattle.map_cargo.specs.declared.entry.Told.{Told}
 use Rattle.map_cargo.specs.declared.size.MapCargo.{MapCargo}
 use Rattle.map_cargo.specs.Entries.{as_reply}
 use Rattle.map_cargo.specs.Licences.{MetWhoRefused}
-use Rattle.query_cells.specs.Asked.{LedgerParcel, LedgerRun}
+use Rattle.query_cells.specs.Asked.{LedgerParcel}
 use Rattle.run_laws.specs.Callers.{IsWhole, seats_for}
 use Rattle.run_laws.specs.Lists.{all_answers, all_told}
 use Rattle.run_laws.specs.WholeLaws.{show_one_history}

@@ -1,18 +1,14 @@
 -- The own lists of passes that have taken all callers in have just the replies of the outcome, each under its caller and index.
 use Rattle.std.specs.Prelude.{◌≡◌, ◌⊎◌, ℕ, zero, suc, ◌+◌, List, [], ◌∷◌, ◌++◌, Some, get_or, slice_get}
-use Rattle.std.proofs.Common.{refl, sym, ap, subst, ⊎_elim, arith, inl, inr}
+use Rattle.std.proofs.Common.{refl, sym, subst, ⊎_elim, arith, inl, inr}
 use Rattle.std.proofs.lemmas.Option.{none-some, same_Some}
-use Rattle.waiter_chain.specs.declared.view.View.{View as ChainView}
 use Rattle.lock_model.specs.Locks.{Has}
 use Rattle.query_rules.specs.declared.query.Query.{Query}
 use Rattle.query_rules.specs.declared.query.Reply.{Reply}
 use Rattle.hall.specs.Treading.{has_either}
-use Rattle.hall.specs.declared.view.View.{View}
-use Rattle.map_cargo.specs.declared.entry.Part.{Part}
 use Rattle.map_cargo.specs.declared.entry.Told.{Told}
-use Rattle.query_cells.specs.Asked.{LedgerParcel, LedgerRun}
-use Rattle.run_laws.specs.Callers.{IsWhole}
-use Rattle.run_laws.specs.Laws.{HasJust, IsAnswered, TellJustTheReplies}
+use Rattle.query_cells.specs.Asked.{LedgerRun}
+use Rattle.run_laws.specs.Laws.{HasJust, TellJustTheReplies}
 use Rattle.run_laws.specs.Lists.{all_answers, all_told, answer_of, answers_from, told_from, told_of}
 
 -- ---- two lists in a row
@@ -87,12 +83,12 @@ module _ {A : Type 0} (of : ℕ → ℕ → Query → Reply → List A) where
         → (j : ℕ) × (i : ℕ) × (q : Query) × (r : Reply) × (slice_get (get_or (qs ∷ callers) j []) i ≡ Some q) × (slice_get (get_or (rs ∷ told) j []) i ≡ Some r) × Has (of (first + j) i q r) a
     other_caller a h = ⊎_elim
         (λ l. (
-            let o = mine.no_other a l in
-            let at : first ≡ first + 0 = omega arith in
-            let from : 0 + o.0 ≡ o.0 = omega arith in
-            let here : Has (of first o.0 o.1 o.2) a = subst (λ n. Has (of first n o.1 o.2) a) from o.5 in
-            (0, o.0, o.1, o.2, o.3, o.4, subst (λ n. Has (of n o.0 o.1 o.2) a) at here)
-            ))
+        let o = mine.no_other a l in
+        let at : first ≡ first + 0 = omega arith in
+        let from : 0 + o.0 ≡ o.0 = omega arith in
+        let here : Has (of first o.0 o.1 o.2) a = subst (λ n. Has (of first n o.1 o.2) a) from o.5 in
+        (0, o.0, o.1, o.2, o.3, o.4, subst (λ n. Has (of n o.0 o.1 o.2) a) at here)
+        ))
         (λ t. (let o = others.no_other a t in let at : first + 1 + o.0 ≡ first + suc o.0 = omega arith in (suc o.0, o.1, o.2, o.3, o.4, o.5, subst (λ n. Has (of n o.1 o.2 o.3) a) at o.6)))
         h
 

@@ -1,17 +1,15 @@
 -- The passes of a caller's number, split off two first ones: the laws of a loop that gives callers their passes.
-use Rattle.std.specs.Prelude.{◌≡◌, ℕ, zero, suc, ◌+◌, ◌-◌, ◌<◌, ◌≤◌, Bool, false, nat_lt, cond, List, [], replicate, slice_index_or}
+use Rattle.std.specs.Prelude.{◌≡◌, ℕ, zero, suc, ◌+◌, ◌<◌, ◌≤◌, Bool, false, nat_lt, cond, [], replicate, slice_index_or}
 use Rattle.std.proofs.Common.{refl, ap, ◌∙◌, arith, le-ltb}
 use Rattle.view_sums.specs.Sums.{total}
 use Rattle.waiter_chain.specs.Chains.{covers, within}
 use Rattle.waiter_chain.specs.Steps.{cut_right}
 use Rattle.waiter_chain.specs.declared.view.View.{View as ChainView}
-use Rattle.hall.specs.Numbers.{width}
 use Rattle.hall.specs.Views.{joined_view, split_left, split_right}
-use Rattle.hall.specs.declared.view.Standing.{Standing}
 use Rattle.hall.specs.declared.view.Standing.TheVariants.{Away}
 use Rattle.hall.specs.declared.view.View.{View}
 use Rattle.map_cargo.specs.declared.entry.Part.{Part}
-use Rattle.map_cargo.specs.History.{IsRested, first_part, joined_part, split_part}
+use Rattle.map_cargo.specs.History.{first_part, joined_part, split_part}
 use Rattle.map_cargo.specs.Steps.{IsIdle}
 use Rattle.query_cells.specs.Asked.{LedgerParcel}
 use Rattle.run_laws.specs.Callers.{IsFresh}
