@@ -1,6 +1,6 @@
 -- The closes of passes that have taken all callers in show one history.
 use Rattle.std.specs.Prelude.{◌≡◌, ℕ, ◌<◌, List, [], ◌∷◌, map}
-use Rattle.std.proofs.Common.{sym, subst, ⊎_elim}
+use Rattle.std.proofs.Common.{sym, ◌∙◌, subst, ⊎_elim}
 use Rattle.std.specs.declared.option.Option.{Option}
 use Rattle.std.specs.List.{AllByRecursion}
 use Rattle.waiter_chain.specs.declared.view.Opening.{Opening}
@@ -16,6 +16,7 @@ use Rattle.query_rules.specs.Grammar.{TakesBelow}
 use Rattle.query_rules.specs.History.{IsHistory, IsLegal}
 use Rattle.query_rules.specs.Maps.{no_entries}
 use Rattle.query_log.specs.Ledgers.{LedgerView, Means}
+use Rattle.hall.specs.Numbers.{width}
 use Rattle.hall.specs.declared.view.Shape.{Shape}
 use Rattle.hall.specs.declared.view.View.{View}
 use Rattle.map_cargo.specs.declared.entry.Part.{Part}
@@ -25,6 +26,7 @@ use Rattle.query_cells.specs.Asked.{LedgerParcel}
 use Rattle.query_cells.specs.LicenceLaws.{AllBacked, IsNear, all_licensed}
 use Rattle.run_laws.specs.AskedLaws.{all_as}
 use Rattle.run_laws.specs.Callers.{IsWhole}
+use Rattle.run_laws.specs.Laws.{ShowOneHistory}
 use Rattle.run_laws.specs.LedgerLaws.{ledger_whole}
 use Rattle.run_laws.specs.MapLaws.{maps_whole}
 
@@ -68,3 +70,9 @@ whole_is_history rows room shape o callers told w e out whole same taken legal m
   ledger = ledger_whole rows room o callers told e.own out whole.once whole.lists first ends;
   licensed = all_licensed callers shape w.steps w.trail met whole.trod 0 callers told (all_near shape.locks callers taken) (subst (λ (s : Shape). AllBacked s w.steps 0 callers told) same whole.backed);
 }
+
+-- and so they do by the clauses of the two closes as they stand
+pub show_one_history : ShowOneHistory
+show_one_history rows room nodes shape o callers told w e out seats all same taken whole hall ledger =
+    let wide : width w ≡ shape.seats = whole.wide ∙ sym seats in
+    whole_is_history rows room shape o callers told w e out whole same taken (hall.legal wide) (hall.met wide) ledger.began (ledger.value (λ n low. whole.covered n (subst (λ k. n < k) all low)))
