@@ -2,7 +2,7 @@ use Rattle.std.proofs.Common.{◌≡◌, ◌+◌, length, count_by}
 use Rattle.query_rules.specs.declared.query.Total.{Total}
 use Rattle.query_rules.specs.Log.{is_counted}
 use Rattle.query_text.specs.Counts.{total_in}
-use Rattle.query_text.proofs.outcome.Totals.count_list.Given as goal
+use Rattle.query_text.proofs.outcome.Counts.count_list.Given as goal
 
 -- the replies so far are counted
 abbrev pub invariant-loop-rest : goal.invariant-loop-rest

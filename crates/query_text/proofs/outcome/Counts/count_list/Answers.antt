@@ -1,7 +1,7 @@
 use Rattle.query_rules.specs.declared.query.Total.TheVariants.{Queries}
 use Rattle.query_rules.specs.Log.{is_counted}
 use Rattle.query_text.proofs.Tallies.{count_next, length_next}
-use Rattle.query_text.proofs.outcome.Totals.count_list.Goals as goal
+use Rattle.query_text.proofs.outcome.Counts.count_list.Goals as goal
 
 pub loop-rest-preserved : goal.loop-rest-preserved
 loop-rest-preserved c = (

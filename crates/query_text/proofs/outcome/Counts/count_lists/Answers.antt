@@ -4,7 +4,7 @@ use Rattle.query_rules.specs.declared.query.Reply.{Reply}
 use Rattle.query_rules.specs.declared.query.Total.TheVariants.{Queries}
 use Rattle.query_rules.specs.Log.{is_counted}
 use Rattle.query_text.proofs.Tallies.{lists_next, count_queries}
-use Rattle.query_text.proofs.outcome.Totals.count_lists.Goals as goal
+use Rattle.query_text.proofs.outcome.Counts.count_lists.Goals as goal
 
 pub loop-rest-preserved : goal.loop-rest-preserved
 loop-rest-preserved c =

@@ -2,7 +2,7 @@ use Rattle.std.proofs.Common.{◌≡◌, ◌+◌, length, sum_by, map}
 use Rattle.query_rules.specs.declared.query.Total.{Total}
 use Rattle.query_rules.specs.Log.{total_of}
 use Rattle.query_text.specs.Counts.{total_in}
-use Rattle.query_text.proofs.outcome.Totals.count_lists.Given as goal
+use Rattle.query_text.proofs.outcome.Counts.count_lists.Given as goal
 
 -- the lists so far are counted
 abbrev pub invariant-loop-rest : goal.invariant-loop-rest
