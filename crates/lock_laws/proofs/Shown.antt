@@ -1,9 +1,10 @@
 -- Whom the lock shown lists, and what follows for a reader that enters.
-use Rattle.std.proofs.Common.{◌≡◌, ℕ, zero, suc, ◌+◌, ◌<◌, ◌≤◌, true, false, None, List, [], ◌∷◌, sym, refl, subst, inl, inr, arith}
+use Rattle.std.proofs.Common.{◌≡◌, ℕ, zero, suc, ◌+◌, ◌<◌, ◌≤◌, true, false, None, List, [], ◌∷◌, slice_set, sym, refl, subst, inl, inr, arith}
 use mathlib.Core.Logic.{dite}
 use mathlib.Core.Option.{some, some-injective, some-ne-none}
 use Rattle.std.proofs.Math.Decide.{dec_lt}
 use lib.ListN.{get_elem?}
+use Rattle.atomic_table.specs.Table.{State}
 use Rattle.lock_model.specs.declared.model.SeatRole.{SeatRole}
 use Rattle.lock_model.specs.Locks.{Has}
 use Rattle.lock_model.specs.Moves.{no_reader_passes}
@@ -20,7 +21,7 @@ use Rattle.hall.specs.Cargo.{exclusive_mode}
 use Rattle.hall.specs.Locks.{Tally, weight, count}
 use Rattle.hall.specs.Views.{mode_of, standing}
 use Rattle.view_sums.specs.Sums.{total, terms_le}
-use Rattle.lock_laws.specs.Laws.{RuleShows, NoReaderEntersPast, CargoStepShows, HolderIsAlone, ChangesFields}
+use Rattle.lock_laws.specs.Laws.{RuleShows, UnitsCountedOnce, NoReaderEntersPast, CargoStepShows, HolderIsAlone, ChangesFields}
 
 module _ {P : Type 0} where
   -- a pass that isn't spent stands in the lock shown
@@ -60,6 +61,11 @@ no_mode x h = elim x as (λ z. (weight z).exclusive + (weight z).shared + (weigh
 module _ {C P : Type 0} (g : Ghosts C P) where
   pub shows_locks : RuleShows g
   shows_locks plan s h lock near = rule_shows g plan s h lock near
+
+  pub units_once : UnitsCountedOnce g
+  units_once v w lock place found left act m =
+      let then : State (Unit {0}) (View P) = record { words = slice_set m.state.words place left; homes = m.state.homes; views = slice_set m.state.views m.id w } in
+      ((rule_shows g m.plan m.state m.before lock m.near).units, (rule_shows g m.plan then m.after lock m.near).units)
 
   pub enters_past_nobody : NoReaderEntersPast g
   enters_past_nobody v w lock found left m lives first j u there ne living f =

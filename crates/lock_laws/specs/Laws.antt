@@ -1,5 +1,5 @@
 -- The statements of the laws.
-use Rattle.std.specs.Prelude.{◌≡◌, ◌≢◌, ℕ, ◌+◌, ◌%◌, ◌<◌, if◌then◌else◌, List, slice_set, Some, None}
+use Rattle.std.specs.Prelude.{◌≡◌, ◌≢◌, ℕ, ◌+◌, ◌%◌, ◌<◌, if◌then◌else◌, List, slice_index, slice_set, Option, Some, None}
 use mathlib.Core.Option.{some}
 use lib.ListN.{get_elem?}
 use Rattle.atomic_table.specs.Table.{State}
@@ -14,16 +14,23 @@ use Rattle.state_word.specs.Words.{fields, fields_of, is_deep, may_defer_of, upg
 use Rattle.hall.specs.declared.cargo.CargoRule.{Ghosts}
 use Rattle.hall.specs.declared.view.Plan.{Plan}
 use Rattle.hall.specs.declared.view.View.{View}
-use Rattle.hall.specs.Moves.{Moment, CargoMoment, shown, role_of}
+use Rattle.hall.specs.Locks.{counts, named_by}
+use Rattle.hall.specs.Moves.{Moment, MomentAt, CargoMoment, shown, role_of}
 use Rattle.hall.specs.Cargo.{exclusive_mode}
 use Rattle.hall.specs.Rule.{Holds}
-use Rattle.hall.specs.Shows.{LockShows}
+use Rattle.hall.specs.Shows.{LockShows, CountsUnits}
 use Rattle.hall.specs.Views.{standing, mode_of}
 
 module _ {C P : Type 0} (g : Ghosts C P) where
   -- where the rule holds, each lock is so
   abbrev pub RuleShows : Type 0
   RuleShows = (plan : Plan C) (s : State (Unit {0}) (View P)) → Holds g plan s → (lock : ℕ) → lock < plan.shape.locks → LockShows plan.shape.slots lock s.words s.views
+
+  -- at the moment of each step for a lock, on its word or on a slot, each reader's unit is counted once, before the step and after it: it is inline in the lock's count, in a writer's hand, or a token in a slot
+  abbrev pub UnitsCountedOnce : Type 0
+  UnitsCountedOnce = (v w : View P) (lock place found left : ℕ) (act : Option Act) (m : MomentAt g v w lock place found left act) →
+      let slots = m.plan.shape.slots in let words = slice_set m.state.words place left in let views = slice_set m.state.views m.id w in
+      CountsUnits (slice_index m.state.words (slots + lock)) (named_by slots lock m.state.words) (counts lock m.state.views) × CountsUnits (slice_index words (slots + lock)) (named_by slots lock words) (counts lock views)
 
   -- at the moment of a step that enters a reader under write priority, no other pass is announced at the lock
   abbrev pub NoReaderEntersPast : Type 0

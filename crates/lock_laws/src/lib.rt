@@ -7,7 +7,7 @@
 //! and `state_word`.
 #![tactic(auto)]
 
-ghost use Rattle.lock_laws.specs.Laws.{RuleShows, MovesKeepLawful, NoReaderPasses, NoReaderEntersPast, CargoStepShows, HolderIsAlone, ChangesFields};
+ghost use Rattle.lock_laws.specs.Laws.{RuleShows, UnitsCountedOnce, MovesKeepLawful, NoReaderPasses, NoReaderEntersPast, CargoStepShows, HolderIsAlone, ChangesFields};
 
 use hall::CargoRule;
 
@@ -16,6 +16,13 @@ use hall::CargoRule;
 /// the lock is accounted for while readers don't defer, and while the lock is held no reader is inside.
 pub fn the_rule_shows_each_lock<C: CargoRule>()
     ensures { RuleShows C.CargoRule }
+{}
+
+/// At the moment of each step for a lock, on its word or on a slot, each reader's unit is counted once, before the step and
+/// after it, however many passes and locks there are: it is inline in the lock's count, in a writer's hand, or a token in a
+/// slot.
+pub fn each_unit_is_counted_once<C: CargoRule>()
+    ensures { UnitsCountedOnce C.CargoRule }
 {}
 
 /// After an allowed event a lawful lock is lawful.
