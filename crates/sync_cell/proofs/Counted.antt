@@ -12,7 +12,9 @@ use Rattle.hall.specs.declared.cargo.CargoRule.{Ghosts}
 use Rattle.hall.specs.declared.guards.TryFault.{TryFault}
 use Rattle.hall.specs.declared.guards.TryFault.TheVariants.{Busy, Raced}
 use Rattle.hall.specs.declared.view.View.{View}
-use Rattle.shared_mutex.specs.Acquiring.{RefusesAnnouncing, RefusesShared, TakesShared}
+use Rattle.shared_mutex.specs.Acquiring.{Finishes, RefusesAnnouncing, RefusesShared, TakesShared}
+use Rattle.upgrade_mode.specs.Holding.{EntersUpgrade, RefusesUpgrade}
+use Rattle.upgrade_mode.specs.Tries.{EntersUpgradeAtLast, MissesBeginning, UpgradersRefused}
 use Rattle.timed_wait.specs.Waiting.{AsksBelow}
 use Rattle.sync_cell.specs.Attempts.{how_many, is_hold, is_load}
 use Rattle.shared_mutex.specs.TryLaws.{all_counted}
@@ -45,6 +47,17 @@ module _ {C P : Type 0} (g : Ghosts C P) where
   writer_counts lock v w (Busy word) r = let e : loads w ≡ 1 + loads v = ap loads r.1 in omega (arith, e)
   writer_counts lock v w (Raced expected found) r = let e : loads w ≡ 0 + (1 + loads v) = ap loads r.1 in omega (arith, e)
 
+  pub upgrader_counts : (lock : ℕ) (v w : View P) (f : TryFault) → RefusesUpgrade g v lock w f → loads w ≡ loads v + 1
+  upgrader_counts lock v w (Busy word) r = let e : loads w ≡ 1 + loads v = ap loads r.1 in omega (arith, e)
+  upgrader_counts lock v w (Raced expected found) r = let e : loads w ≡ 0 + (1 + loads v) = ap loads r.1 in omega (arith, e)
+
+  pub upgrading_counts : (lock : ℕ) (v w : View P) → EntersUpgrade g v lock w → loads w ≡ loads v + 1
+  upgrading_counts lock v w t = let e : loads w ≡ 0 + (1 + loads v) = ap loads t.2.0.3 in omega (arith, e)
+
+  pub beginning_counts : (lock : ℕ) (v w : View P) (f : TryFault) → MissesBeginning g v lock w f → loads w ≡ loads v + 1
+  beginning_counts lock v w (Busy word) r = absurd r
+  beginning_counts lock v w (Raced expected found) r = let e : loads w ≡ 0 + (1 + loads v) = ap loads r.1 in omega (arith, e)
+
   meeting_counts : (lock : ℕ) (v w : View P) (f : TryFault) → MeetsReaders g v lock w f → holds w ≡ holds v + 1
   meeting_counts lock v w (Busy word) r = let e : holds w ≡ 1 + holds v = ap holds r.0.1.0 in omega (arith, e)
   meeting_counts lock v w (Raced expected found) r = absurd r
@@ -56,6 +69,9 @@ module _ {C P : Type 0} (g : Ghosts C P) where
   pub writers_counted : (lock : ℕ) (v w : View P) (fs : List TryFault) → WritersRefused g lock v fs w → loads w ≡ loads v + length fs
   writers_counted lock v w fs r = all_counted (λ v w f. RefusesAnnouncing g v lock w f) loads (λ v w f. writer_counts lock v w f) v w fs r
 
+  pub upgraders_counted : (lock : ℕ) (v w : View P) (fs : List TryFault) → UpgradersRefused g lock v fs w → loads w ≡ loads v + length fs
+  upgraders_counted lock v w fs r = all_counted (λ v w f. RefusesUpgrade g v lock w f) loads (λ v w f. upgrader_counts lock v w f) v w fs r
+
   pub meetings_counted : (lock : ℕ) (v w : View P) (fs : List TryFault) → ReadersMet g lock v fs w → holds w ≡ holds v + length fs
   meetings_counted lock v w fs r = all_counted (λ v w f. MeetsReaders g v lock w f) holds (λ v w f. meeting_counts lock v w f) v w fs r
 
@@ -66,6 +82,9 @@ module _ {C P : Type 0} (g : Ghosts C P) where
   -- and then one succeeded
   pub entered_counted : (lock : ℕ) (v w : View P) (fs : List TryFault) → EntersAtLast g v lock fs w → loads w ≡ loads v + (length fs + 1)
   entered_counted lock v w fs e = omega (arith, readers_counted lock v e.0 fs e.1, entering_counts lock e.0 w e.3)
+
+  pub upgraded_counted : (lock : ℕ) (v w : View P) (fs : List TryFault) → EntersUpgradeAtLast g v lock fs w → loads w ≡ loads v + (length fs + 1)
+  upgraded_counted lock v w fs e = omega (arith, upgraders_counted lock v e.0 fs e.1, upgrading_counts lock e.0 w e.3)
 
   pub announced_counted : (lock : ℕ) (v w : View P) (fs : List TryFault) → AnnouncesAtLast g v lock fs w → loads w ≡ loads v + (length fs + 1)
   announced_counted lock v w fs e =

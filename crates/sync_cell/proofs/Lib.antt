@@ -1,4 +1,5 @@
 mod Acquired
 mod Counted
 mod InTime
+mod Swept
 mod Tried

@@ -7,15 +7,17 @@ use Rattle.hall.specs.declared.guards.TryFault.TheVariants.{Busy, Raced}
 use Rattle.hall.specs.declared.view.Kind.{Kind}
 use Rattle.hall.specs.declared.view.Kind.TheVariants as kinds
 use Rattle.hall.specs.declared.view.Standing.{Standing}
-use Rattle.hall.specs.declared.view.Standing.TheVariants.{Inline, Exclusive, Announcing}
+use Rattle.hall.specs.declared.view.Standing.TheVariants.{Inline, Upgrade, Exclusive, Announcing}
 use Rattle.hall.specs.declared.view.StepEntry.{StepEntry}
 use Rattle.hall.specs.declared.view.View.{View}
-use Rattle.hall.specs.Plays.{Holding}
 use Rattle.hall.specs.Views.{standing}
-use Rattle.shared_mutex.specs.Acquiring.{ElsewhereSame, RefusesAnnouncing, RefusesShared, TakesShared}
+use Rattle.shared_mutex.specs.Acquiring.{ElsewhereSame, Finishes, RefusesAnnouncing, RefusesShared, TakesShared}
 use Rattle.shared_mutex.specs.Tries.{AllRefused, AnnouncesAndSweeps, MeetsReaders, WinsAtLast}
+use Rattle.upgrade_mode.specs.Holding.{BeginsUpgrade, EntersUpgrade, RefusesUpgrade}
+use Rattle.upgrade_mode.specs.Tries.{MissesBeginning}
+use Rattle.apply_deferred.specs.Sweeping.{Sweeps}
 
--- a reader, and who announces a writer, loads once in each try; an announced writer makes one exchange to take the lock
+-- who enters or is announced loads once in each try; an announced writer makes one exchange to take the lock
 abbrev pub is_load : Kind → Bool
 is_load kinds.Load = true
 is_load kind = false
@@ -39,6 +41,8 @@ abbrev pub refusal : Kind → Bool → ℕ → List StepEntry → Option TryFaul
 refusal kind true word es = None
 refusal kinds.Enter false word es = raced_to word es
 refusal kinds.Announce false word es = raced_to word es
+refusal kinds.UpgradeIn false word es = raced_to word es
+refusal kinds.Up false word es = raced_to word es
 refusal kind false word es = Some (Busy word)
 
 -- what the newest step was refused with
@@ -56,6 +60,10 @@ module _ {P : Type 0} (misses : View P → View P → TryFault → Type 0) where
   HasWon wins stands v lock w = (standing w lock ≡ stands) × ElsewhereSame v w lock × ((faults : List TryFault) × WinsAtLast misses wins v lock faults w)
 
 module _ {C P : Type 0} (g : Ghosts C P) where
+  -- a try announced the upgrade holder, which then swept so many slots
+  abbrev pub BeginsAndSweeps : ℕ → View P → ℕ → View P → Type 0
+  BeginsAndSweeps slots v lock w = (a : View P) × BeginsUpgrade g v lock a × ((taken : ℕ) × Sweeps g lock slots taken a w)
+
   -- tries to enter were all refused, the last of them with this fault
   abbrev pub StillOutside : View P → ℕ → TryFault → View P → Type 0
   StillOutside v lock fault w = StillRefused (λ v w fault. RefusesShared g v lock w fault) v fault w
@@ -72,10 +80,26 @@ module _ {C P : Type 0} (g : Ghosts C P) where
   abbrev pub HasAnnounced : View P → ℕ → View P → Type 0
   HasAnnounced v lock w = HasWon (λ v w fault. RefusesAnnouncing g v lock w fault) (λ u w. AnnouncesAndSweeps g v.shape.slots u lock w) (Announcing v.shape.slots 0 false) v lock w
 
+  -- tries to take upgrade were all refused
+  abbrev pub StillBelow : View P → ℕ → TryFault → View P → Type 0
+  StillBelow v lock fault w = StillRefused (λ v w fault. RefusesUpgrade g v lock w fault) v fault w
+
+  -- and then one took it
+  abbrev pub HasUpgraded : View P → ℕ → View P → Type 0
+  HasUpgraded v lock w = HasWon (λ v w fault. RefusesUpgrade g v lock w fault) (λ u w. EntersUpgrade g u lock w) Upgrade v lock w
+
+  -- tries to announce the upgrade holder all raced
+  abbrev pub StillWaiting : View P → ℕ → TryFault → View P → Type 0
+  StillWaiting v lock fault w = StillRefused (λ v w fault. MissesBeginning g v lock w fault) v fault w
+
+  -- and then one announced it, which swept
+  abbrev pub HasBegun : View P → ℕ → View P → Type 0
+  HasBegun v lock w = HasWon (λ v w fault. MissesBeginning g v lock w fault) (λ u w. BeginsAndSweeps v.shape.slots u lock w) (Announcing v.shape.slots 0 true) v lock w
+
   -- tries of an announced writer to take the lock were all refused
   abbrev pub StillAnnounced : View P → ℕ → TryFault → View P → Type 0
   StillAnnounced v lock fault w = StillRefused (λ v w fault. MeetsReaders g v lock w fault) v fault w
 
-  -- and then one took it
-  abbrev pub HasFinished : View P → ℕ → View P → Type 0
-  HasFinished v lock w = HasWon (λ v w fault. MeetsReaders g v lock w fault) (λ u w. Holding g u lock 4 w) Exclusive v lock w
+  -- and then one took it, for a writer that was announced from outside or from upgrade
+  abbrev pub HasFinished : Bool → View P → ℕ → View P → Type 0
+  HasFinished from_upgrade v lock w = HasWon (λ v w fault. MeetsReaders g v lock w fault) (λ u w. Finishes g from_upgrade u lock w) Exclusive v lock w

@@ -22,6 +22,7 @@ use Rattle.shared_mutex.specs.Acquiring.{AnnouncesWriter, FoundReaders, RefusesA
 use Rattle.shared_mutex.specs.Refused.{AddsReads, MadeMore}
 use Rattle.shared_mutex.specs.Tries.{AddsSteps, IsTry}
 use Rattle.shared_mutex.specs.TryLaws.{adds_as, adds_none, adds_then}
+use Rattle.upgrade_mode.specs.Holding.{EntersUpgrade, RefusesUpgrade}
 use Rattle.sync_cell.specs.Attempts.{is_hold, is_load}
 use Rattle.sync_cell.specs.Gains.{AnyStep, GainedBy, GainedInOrder, IsQuiet, gains_mode, refuses_reader, refuses_writer}
 
@@ -137,6 +138,22 @@ module _ {C P : Type 0} (g : Ghosts C P) (v w : View P) (lock : ℕ) (away : sta
   pub reader_tried : (f : TryFault) → RefusesShared g v lock w f → AddsSteps (IsTry v lock) v w
   reader_tried (Busy word) r = plain_tries AnyStep v w lock (step_more AnyStep v v w kinds.Load lock word false (standing v lock) v.part (tries_none AnyStep v lock away) tt r.1)
   reader_tried (Raced expected found) r = plain_tries (λ e. refuses_reader v.shape.policy e ≡ false) v w lock (reader_raced expected found r)
+
+-- ---- upgrade, of whom the same words are in the way as of a writer's announcement
+module _ {C P : Type 0} (g : Ghosts C P) (v w : View P) (lock : ℕ) (away : standing v lock ≡ Away) where
+  pub upgrader_took : EntersUpgrade g v lock w → AddsSteps (IsTrySuch (λ e. refuses_writer e ≡ false) v lock) v w
+  upgrader_took t =
+      let Free : StepEntry → Type 0 = λ e. refuses_writer e ≡ false in
+      step_more Free v (after_look v kinds.Load lock t.0) w kinds.UpgradeIn lock t.0 true _ _ (tries_look Free v v kinds.Load lock t.0 (tries_none Free v lock away) (ap (λ (b : Bool). b || false) t.1)) refl t.2.0.3
+
+  pub upgrader_raced : (expected found : ℕ) → RefusesUpgrade g v lock w (Raced expected found) → AddsSteps (IsTrySuch (λ e. refuses_writer e ≡ false) v lock) v w
+  upgrader_raced expected found r =
+      let Free : StepEntry → Type 0 = λ e. refuses_writer e ≡ false in let look : View P = after_look v kinds.Load lock expected in
+      step_more Free v look w kinds.UpgradeIn lock found false (standing look lock) look.part (tries_look Free v v kinds.Load lock expected (tries_none Free v lock away) (ap (λ (b : Bool). b || false) r.3)) refl r.1
+
+  pub upgrader_tried : (f : TryFault) → RefusesUpgrade g v lock w f → AddsSteps (IsTry v lock) v w
+  upgrader_tried (Busy word) r = plain_tries AnyStep v w lock (step_more AnyStep v v w kinds.Load lock word false (standing v lock) v.part (tries_none AnyStep v lock away) tt r.1)
+  upgrader_tried (Raced expected found) r = plain_tries (λ e. refuses_writer e ≡ false) v w lock (upgrader_raced expected found r)
 
 -- ---- writers
 module _ {C P : Type 0} (g : Ghosts C P) (such : StepEntry → Type 0) (v : View P) (lock : ℕ) (away : standing v lock ≡ Away) (sweeping : (e : StepEntry) → is_sweeping e.kind ≡ true → such e) where

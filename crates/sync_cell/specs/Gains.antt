@@ -19,7 +19,7 @@ gains_mode kind = false
 abbrev pub refuses_reader : Policy → StepEntry → Bool
 refuses_reader policy e = is_load e.kind && conflicts_for_shared policy e.word
 
--- a step for which a writer's try is refused busy: a load that found a word that lets no writer be announced, or an exchange of an announced writer that found readers counted
+-- a step for which a writer's try or one for upgrade is refused busy: a load that found a word that lets neither be granted, or an exchange of an announced writer that found readers counted
 abbrev pub refuses_writer : StepEntry → Bool
 refuses_writer e = (is_load e.kind && conflicts_for_announcing e.word) || (is_hold e.kind && not e.won)
 

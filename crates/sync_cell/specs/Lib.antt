@@ -1,6 +1,7 @@
 pub mod Cells
 pub mod Attempts
 pub mod AttemptLaws
+pub mod Rising
 pub mod Gains
 pub mod GainLaws
 pub mod Waits

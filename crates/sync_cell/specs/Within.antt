@@ -6,7 +6,7 @@ use Rattle.hall.specs.declared.guards.TryFault.{TryFault}
 use Rattle.hall.specs.declared.hall.Hall.{Hall}
 use Rattle.hall.specs.declared.hall.Pass.{Pass}
 use Rattle.hall.specs.declared.view.Standing.{Standing}
-use Rattle.hall.specs.declared.view.Standing.TheVariants.{Inline, Exclusive}
+use Rattle.hall.specs.declared.view.Standing.TheVariants.{Inline, Upgrade, Exclusive}
 use Rattle.hall.specs.declared.view.View.{View}
 use Rattle.hall.specs.Passes.{view, IsPassOf}
 use Rattle.hall.specs.Views.{mode_of, standing}
@@ -15,8 +15,10 @@ use Rattle.map_cargo.specs.declared.size.MapCargo.{MapCargo}
 use Rattle.shared_mutex.specs.Acquiring.{ElsewhereSame}
 use Rattle.sync_cell.specs.Cells.{maps}
 use Rattle.sync_cell.specs.declared.pointers.ReadPtr.{ReadPtr}
+use Rattle.sync_cell.specs.declared.pointers.UpgradePtr.{UpgradePtr}
 use Rattle.sync_cell.specs.declared.pointers.WritePtr.{WritePtr}
 use Rattle.shared_mutex.specs.Tries.{EntersAtLast, WritesAtLast}
+use Rattle.upgrade_mode.specs.Tries.{EntersUpgradeAtLast}
 
 module _ {P : Type 0} where
   -- at each lock the pass holds the mode that it held before
@@ -27,9 +29,12 @@ module _ {P : Type 0} where
   abbrev pub KeepsModesElsewhere : View P → View P → ℕ → Type 0
   KeepsModesElsewhere v w lock = (k : ℕ) → k ≢ lock → mode_of (standing w k) ≡ mode_of (standing v k)
 
--- the pointer to a cell that is held for reading, and for writing
+-- the pointer to a cell that is held for reading, in upgrade mode, and for writing
 abbrev pub reads_at : ℕ → ReadPtr
 reads_at cell = record { guard = record { lock = cell } }
+
+abbrev pub upgrades_at : ℕ → UpgradePtr
+upgrades_at cell = record { guard = record { lock = cell } }
 
 abbrev pub writes_at : ℕ → WritePtr
 writes_at cell = record { guard = record { lock = cell } }
@@ -37,6 +42,10 @@ writes_at cell = record { guard = record { lock = cell } }
 -- a pass of the hall has just taken the cell for reading, with this view before
 abbrev pub TookToRead : Hall MapCargo Part → View Part → ℕ → Pass MapCargo Part maps → Type 0
 TookToRead h v cell held = IsPassOf h held × (standing (view held) cell ≡ Inline) × ElsewhereSame v (view held) cell × ((faults : List TryFault) × EntersAtLast maps v cell faults (view held))
+
+-- or in upgrade mode
+abbrev pub TookToUpgrade : Hall MapCargo Part → View Part → ℕ → Pass MapCargo Part maps → Type 0
+TookToUpgrade h v cell held = IsPassOf h held × (standing (view held) cell ≡ Upgrade) × ElsewhereSame v (view held) cell × ((faults : List TryFault) × EntersUpgradeAtLast maps v cell faults (view held))
 
 -- or for writing
 abbrev pub TookToWrite : Hall MapCargo Part → View Part → ℕ → Pass MapCargo Part maps → Type 0

@@ -4,7 +4,7 @@ use Rattle.std.proofs.Common.{ap, refl, ◌∙◌}
 use Rattle.hall.specs.declared.guards.TryFault.{TryFault}
 use Rattle.hall.specs.declared.view.View.{View}
 use Rattle.hall.specs.declared.view.Kind.TheVariants as kinds
-use Rattle.hall.specs.declared.view.Standing.TheVariants.{Inline, Exclusive}
+use Rattle.hall.specs.declared.view.Standing.TheVariants.{Inline, Upgrade, Exclusive}
 use Rattle.hall.specs.Views.{after_look, entry_of}
 use Rattle.map_cargo.specs.declared.entry.Part.{Part}
 use Rattle.map_cargo.specs.Gaining.{gained_by, gained_from}
@@ -13,6 +13,7 @@ use Rattle.map_cargo.specs.Steps.{Gained, MoreSteps}
 use Rattle.apply_deferred.specs.SweepLaws.{sweep_goes}
 use Rattle.sync_cell.specs.Cells.{maps}
 use Rattle.shared_mutex.specs.Tries.{AnnouncesAtLast, EntersAtLast, OnlyLooked, WritesAtLast}
+use Rattle.upgrade_mode.specs.Tries.{EntersUpgradeAtLast}
 
 -- looks only add steps
 looked_more : (v w : View Part) (lock : ℕ) → OnlyLooked v lock w → MoreSteps v w
@@ -35,6 +36,11 @@ pub gained_to_read : (v : View Part) (cell : ℕ) (faults : List TryFault) (w : 
 gained_to_read v cell faults w s =
     let u : View Part = s.0 in let looked = s.2 in let look : View Part = after_look u kinds.Load cell s.3.0 in
     gained_from cell look v w looked.part looked.number looked.quota looked.span looked.taken (more_then v u look (looked_more v u cell looked) (load_more u cell s.3.0)) (gained_by kinds.Enter Inline _ cell s.3.0 w s.3.2.0)
+
+pub gained_to_upgrade : (v : View Part) (cell : ℕ) (faults : List TryFault) (w : View Part) → EntersUpgradeAtLast maps v cell faults w → Gained cell v w
+gained_to_upgrade v cell faults w s =
+    let u : View Part = s.0 in let looked = s.2 in let look : View Part = after_look u kinds.Load cell s.3.0 in
+    gained_from cell look v w looked.part looked.number looked.quota looked.span looked.taken (more_then v u look (looked_more v u cell looked) (load_more u cell s.3.0)) (gained_by kinds.UpgradeIn Upgrade _ cell s.3.0 w s.3.2.0)
 
 pub gained_to_write : (v : View Part) (cell : ℕ) (faults misses : List TryFault) (w : View Part) → WritesAtLast maps v cell faults misses w → Gained cell v w
 gained_to_write v cell faults misses w s =

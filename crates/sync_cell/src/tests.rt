@@ -8,8 +8,9 @@ ghost use Rattle.map_cargo.specs.Steps.{Gained, IsIdle};
 ghost use Rattle.sync_cell.specs.Within.{KeepsModes};
 
 use crate::{
-    ReadPtr, WritePtr, rlock, rlock_until, try_rlock, try_wlock, unlock_read, unlock_write,
-    with_rlock, with_wlock, wlock, wlock_until,
+    ReadPtr, UpgradePtr, WritePtr, move_from_upgrade_to_read, move_from_upgrade_to_write,
+    move_from_write_to_upgrade, rlock, rlock_until, try_rlock, try_ulock, try_wlock, ulock,
+    ulock_until, unlock_read, unlock_write, with_rlock, with_ulock, with_wlock, wlock, wlock_until,
 };
 use hall::{Hall, Pass, Policy, TryFault, Word};
 use map_cargo::MapCargo;
@@ -107,6 +108,24 @@ fn no_writer<A: Abort + Wait>(
     }
 }
 
+// A call for upgrade of cell 0 that has to be late so.
+fn no_upgrade<A: Abort + Wait>(
+    rt: &A,
+    hall: &Hall<MapCargo>,
+    pass: &mut Pass<MapCargo>,
+    clock: &mut ListClock,
+    expected: Late<TryFault>,
+)
+    requires pass { IsPassOf hall.now pass.old × (0 < (shape_of hall.now).locks) }
+    requires away { standing (view pass.old) 0 ≡ Away }
+    ensures pass { IsPassOf hall.now pass.new × (standing (view pass.new) 0 ≡ Away) }
+{
+    match ulock_until(rt, hall, pass, 0, clock, expected.deadline) {
+        Ok(_) => rt.abort(),
+        Err(late) => assert_eq!(rt; late, expected),
+    }
+}
+
 // A try to write cell 0 that has to be refused so.
 fn no_try<A: Abort>(rt: &A, hall: &Hall<MapCargo>, pass: &mut Pass<MapCargo>, expected: TryFault)
     requires pass { IsPassOf hall.now pass.old × (0 < (shape_of hall.now).locks) }
@@ -133,6 +152,7 @@ fn readers_are_late(rt: HostRuntime) -> Result<(), AllocError> {
     let mut writer = first;
     let mut reader = hall.split(&mut writer, 1, 0);
     let mut even = ListClock::new(vec![in rt.alloc(); 0, 3, 5, 4]?);
+    let mut same = ListClock::new(vec![in rt.alloc(); 0, 3, 5, 4]?);
     let mut falling = ListClock::new(vec![in rt.alloc(); 9, 3]?);
     let mut jumping = ListClock::new(vec![in rt.alloc(); 6, 2, 6, 7, 1]?);
     let ptr = hold(&rt, &hall, &mut writer);
@@ -152,6 +172,19 @@ fn readers_are_late(rt: HostRuntime) -> Result<(), AllocError> {
         },
     );
     assert_eq!(rt; even.now(), 4);
+
+    no_upgrade(
+        &rt,
+        &hall,
+        &mut reader,
+        &mut same,
+        Late {
+            now,
+            deadline,
+            fault,
+        },
+    );
+    assert_eq!(rt; same.now(), 4);
 
     let (now, deadline) = (9, 4);
     no_reader(
@@ -365,6 +398,17 @@ fn look_as_writer(hall: &Hall<MapCargo>, pass: &mut Pass<MapCargo>, ptr: &WriteP
     hall.load(pass, ptr.cell())
 }
 
+// The word of a cell that is held in upgrade mode.
+fn look_as_upgrader(hall: &Hall<MapCargo>, pass: &mut Pass<MapCargo>, ptr: &UpgradePtr) -> Word
+    requires pass { IsPassOf hall.now pass.old }
+    requires cell { ptr.now.guard.lock < (shape_of hall.now).locks }
+    ensures pass { IsPassOf hall.now pass.new }
+    ensures modes { KeepsModes (view pass.old) (view pass.new) }
+    ensures stands { standing (view pass.new) ptr.now.guard.lock ≡ standing (view pass.old) ptr.now.guard.lock }
+{
+    hall.load(pass, ptr.cell())
+}
+
 // What is done sees the cell held, and afterwards the cell is free.
 #[test]
 fn something_is_done_while_a_cell_is_held(rt: HostRuntime) {
@@ -381,10 +425,99 @@ fn something_is_done_while_a_cell_is_held(rt: HostRuntime) {
         Word(ONE)
     );
     assert_eq!(rt;
+        with_ulock(&rt, &hall, &mut pass, 0, look_as_upgrader),
+        Word(2)
+    );
+    assert_eq!(rt;
         with_wlock(&rt, &hall, &mut pass, 0, look_as_writer),
         Word(8)
     );
     assert_eq!(rt; hall.load(&mut pass, 0), Word(0));
+}
+
+// Beside an upgrade holder a reader gets in, and no second one that wants upgrade.
+fn beside_upgrade<A: Abort>(rt: &A, hall: &Hall<MapCargo>, other: &mut Pass<MapCargo>)
+    requires pass { IsPassOf hall.now other.old × (0 < (shape_of hall.now).locks) }
+    requires away { standing (view other.old) 0 ≡ Away }
+    ensures pass { IsPassOf hall.now other.new × (standing (view other.new) 0 ≡ Away) }
+{
+    match try_ulock(hall, other, 0) {
+        Ok(_) => rt.abort(),
+        Err(fault) => assert_eq!(rt; fault, TryFault::Busy { word: Word(2) }),
+    }
+    match try_rlock(hall, other, 0) {
+        Ok(ptr) => {
+            assert_eq!(rt; hall.load(other, 0), Word(ONE + 2));
+            unlock_read(hall, other, ptr);
+        }
+        Err(_) => rt.abort(),
+    }
+}
+
+// Takes upgrade, goes on to write, back to upgrade, and on to read, and gives the cell back.
+fn rise_and_fall<A: Abort + Wait>(
+    rt: &A,
+    hall: &Hall<MapCargo>,
+    pass: &mut Pass<MapCargo>,
+    other: &mut Pass<MapCargo>,
+)
+    requires pass { IsPassOf hall.now pass.old × (0 < (shape_of hall.now).locks) }
+    requires idle { IsIdle (view pass.old) }
+    requires other { IsPassOf hall.now other.old × (standing (view other.old) 0 ≡ Away) }
+    ensures pass { IsPassOf hall.now pass.new × (standing (view pass.new) 0 ≡ Away) }
+    ensures other { IsPassOf hall.now other.new × (standing (view other.new) 0 ≡ Away) }
+{
+    let upgraded = ulock(rt, hall, pass, 0);
+    beside_upgrade(rt, hall, other);
+    let written = move_from_upgrade_to_write(rt, hall, pass, upgraded);
+    assert_eq!(rt; hall.load(pass, 0), Word(8));
+    let upgraded = move_from_write_to_upgrade(hall, pass, written);
+    assert_eq!(rt; hall.load(pass, 0), Word(2));
+    let read = move_from_upgrade_to_read(hall, pass, upgraded);
+    assert_eq!(rt; hall.load(pass, 0), Word(ONE));
+    unlock_read(hall, pass, read);
+}
+
+// A cell in each of its modes, one after the other.
+#[test]
+fn from_mode_to_mode(rt: HostRuntime) {
+    let cargo = MapCargo {
+        cells: 1,
+        rows: 1,
+        writes: 1,
+    };
+    let made = Hall::make(rt.alloc(), 1, 32, Policy::WritePriority, 2, 0, cargo);
+    let Ok((hall, first)) = made else { rt.abort() };
+    let mut pass = first;
+    let mut other = hall.split(&mut pass, 1, 0);
+    rise_and_fall(&rt, &hall, &mut pass, &mut other);
+    assert_eq!(rt; hall.load(&mut pass, 0), Word(0));
+}
+
+// Holds cell 0 for writing again and again, by way of upgrade.
+fn rise_often<R: Wait>(rt: &R, hall: &Hall<MapCargo>, pass: &mut Pass<MapCargo>, times: u32)
+    requires pass { IsPassOf hall.now pass.old × (0 < (shape_of hall.now).locks) }
+    requires idle { IsIdle (view pass.old) }
+    ensures pass { IsPassOf hall.now pass.new × IsIdle (view pass.new) }
+{
+    for _ in 0..times {
+        let ptr = rise(rt, hall, pass);
+        give_back(hall, pass, ptr);
+    }
+}
+
+// Takes upgrade of cell 0, and goes on to write.
+fn rise<R: Wait>(rt: &R, hall: &Hall<MapCargo>, pass: &mut Pass<MapCargo>) -> WritePtr
+    requires pass { IsPassOf hall.now pass.old }
+    requires lock { 0 < (shape_of hall.now).locks }
+    requires idle { IsIdle (view pass.old) }
+    ensures pass { IsPassOf hall.now pass.new }
+    ensures held { (result.guard.lock ≡ 0) × (standing (view pass.new) 0 ≡ Exclusive) }
+    ensures others { (k : ℕ) → k ≢ 0 → standing (view pass.new) k ≡ Away }
+    ensures settled { IsSettled 0 (view pass.new).part × IsRested (view pass.new).part }
+{
+    let ptr = ulock(rt, hall, pass, 0);
+    move_from_upgrade_to_write(rt, hall, pass, ptr)
 }
 
 // Holds cell 0 for writing again and again.
@@ -424,13 +557,13 @@ fn by_two_threads<R: Threads + Wait + Sync>(
             requires { IsPassOf hall.now right × IsIdle (view right) × (0 < (shape_of hall.now).locks) }
             ensures { IsPassOf hall.entry.now result × IsIdle (view result) }
         {
-            write_often(rt, hall, &mut right, 1000);
+            rise_often(rt, hall, &mut right, 1000);
             right
         },
     )
 }
 
-// Two threads that wait for one cell end by themselves, and leave it free.
+// Two threads that wait for one cell end by themselves, and leave it free. One comes by way of upgrade.
 #[test]
 fn two_writers(rt: HostRuntime) {
     let cargo = MapCargo {

@@ -2,17 +2,20 @@
 ghost use Rattle.std.specs.Prelude.{◌≡◌, ◌+◌, ◌*◌, ◌<◌, MatchResult};
 ghost use Rattle.hall.specs.Passes.{view, IsPassOf, shape_of};
 ghost use Rattle.hall.specs.Plays.{GivesBack, Releases};
+ghost use Rattle.hall.specs.Upgrading.{LeavesUpgrade};
 ghost use Rattle.hall.specs.Views.{standing};
-ghost use Rattle.hall.specs.declared.view.Standing.TheVariants.{Away, Inline, Exclusive};
+ghost use Rattle.hall.specs.declared.view.Standing.TheVariants.{Away, Inline, Upgrade, Exclusive};
 ghost use Rattle.shared_mutex.specs.Acquiring.{ElsewhereSame, MadeAtMost, RefusesExclusive, RefusesShared, TakesExclusive, TakesShared};
 ghost use Rattle.shared_mutex.specs.Tries.{AddsSteps, IsTry};
+ghost use Rattle.upgrade_mode.specs.Holding.{EntersUpgrade, RefusesUpgrade};
 ghost use Rattle.map_cargo.specs.History.{IsSettled};
 ghost use Rattle.sync_cell.specs.Cells.{maps};
 
-use crate::pointers::{ReadPtr, WritePtr};
+use crate::pointers::{ReadPtr, UpgradePtr, WritePtr};
 use hall::{Hall, Pass, TryFault};
 use map_cargo::MapCargo;
 use shared_mutex::{try_lock, try_lock_shared, unlock, unlock_shared};
+use upgrade_mode::{try_lock_upgrade, unlock_upgrade};
 
 /// Tries to hold the cell for reading, by one load and one exchange. The pass has to be away from the cell, and is away
 /// after a refusal.
@@ -36,6 +39,32 @@ pub fn try_rlock(
 {
     match try_lock_shared(hall, pass, cell) {
         Ok(guard) => Ok(ReadPtr { guard }),
+        Err(fault) => Err(fault),
+    }
+}
+
+/// Tries to hold the cell in upgrade mode, by one load and one exchange. Readers aren't in the way. The pass has to be away
+/// from the cell, and is away after a refusal.
+///
+/// `Busy` comes exactly where the loaded word conflicts, `Raced` exactly where the exchange failed. At most 2 steps, each
+/// made with no mode held at the cell.
+pub fn try_ulock(
+    hall: &Hall<MapCargo>,
+    pass: &mut Pass<MapCargo>,
+    cell: u64,
+) -> Result<UpgradePtr, TryFault>
+    requires pass { IsPassOf hall.now pass.old }
+    requires cell { cell < (shape_of hall.now).locks }
+    requires away { standing (view pass.old) cell ≡ Away }
+    ensures pass { IsPassOf hall.now pass.new }
+    ensures step { MatchResult result (λ ptr. (ptr.guard.lock ≡ cell) × EntersUpgrade maps (view pass.old) cell (view pass.new)) (λ fault. RefusesUpgrade maps (view pass.old) cell (view pass.new) fault) }
+    ensures stands { MatchResult result (λ _. standing (view pass.new) cell ≡ Upgrade) (λ _. standing (view pass.new) cell ≡ Away) }
+    ensures elsewhere { ElsewhereSame (view pass.old) (view pass.new) cell }
+    ensures steps { MadeAtMost (view pass.old) (view pass.new) 2 }
+    ensures tries { AddsSteps (IsTry (view pass.old) cell) (view pass.old) (view pass.new) }
+{
+    match try_lock_upgrade(hall, pass, cell) {
+        Ok(guard) => Ok(UpgradePtr { guard }),
         Err(fault) => Err(fault),
     }
 }
@@ -77,6 +106,21 @@ pub fn unlock_read(hall: &Hall<MapCargo>, pass: &mut Pass<MapCargo>, ptr: ReadPt
 {
     let ReadPtr { guard } = ptr;
     unlock_shared(hall, pass, guard);
+}
+
+/// Gives a cell back that was held in upgrade mode, by one step.
+pub fn unlock_upgrade_ptr(hall: &Hall<MapCargo>, pass: &mut Pass<MapCargo>, ptr: UpgradePtr)
+    requires pass { IsPassOf hall.now pass.old }
+    requires cell { ptr.guard.lock < (shape_of hall.now).locks }
+    requires upgrade { standing (view pass.old) ptr.guard.lock ≡ Upgrade }
+    ensures pass { IsPassOf hall.now pass.new }
+    ensures step { (found : _) × LeavesUpgrade maps (view pass.old) ptr.guard.lock found (view pass.new) }
+    ensures away { standing (view pass.new) ptr.guard.lock ≡ Away }
+    ensures elsewhere { ElsewhereSame (view pass.old) (view pass.new) ptr.guard.lock }
+    ensures steps { MadeAtMost (view pass.old) (view pass.new) 1 }
+{
+    let UpgradePtr { guard } = ptr;
+    unlock_upgrade(hall, pass, guard);
 }
 
 /// Gives a cell back that was held for writing, by one step. The words of the cell have to mean its map.

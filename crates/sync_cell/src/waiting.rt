@@ -3,13 +3,14 @@ ghost use Rattle.std.specs.Prelude.{◌≡◌, ◌<◌, List};
 ghost use Rattle.hall.specs.Passes.{view, IsPassOf, shape_of};
 ghost use Rattle.hall.specs.Views.{standing};
 ghost use Rattle.hall.specs.declared.guards.TryFault.{TryFault};
-ghost use Rattle.hall.specs.declared.view.Standing.TheVariants.{Away, Inline, Exclusive};
+ghost use Rattle.hall.specs.declared.view.Standing.TheVariants.{Away, Inline, Upgrade, Exclusive};
 ghost use Rattle.shared_mutex.specs.Acquiring.{ElsewhereSame};
 ghost use Rattle.sync_cell.specs.Cells.{maps};
 ghost use Rattle.shared_mutex.specs.Tries.{AddsSteps, EntersAtLast, IsPatientTry, WritesAtLast};
+ghost use Rattle.upgrade_mode.specs.Tries.{EntersUpgradeAtLast};
 
-use crate::attempts::{AnnounceAttempt, FinishAttempt, ReadAttempt};
-use crate::pointers::{ReadPtr, WritePtr};
+use crate::attempts::{AnnounceAttempt, FinishAttempt, ReadAttempt, UpgradeAttempt};
+use crate::pointers::{ReadPtr, UpgradePtr, WritePtr};
 use hall::{Hall, Pass};
 use map_cargo::MapCargo;
 use std::sync::Wait;
@@ -39,6 +40,31 @@ pub fn rlock<R: Wait>(
     ReadPtr { guard }
 }
 
+/// Waits until no other pass writes or holds upgrade at the cell, and holds it in upgrade mode. Readers aren't in the way.
+/// The pass has to be away from the cell.
+///
+/// It tries again and again, and lets another thread run between two tries. A refused try only looks. Its contract
+/// holds if it returns.
+pub fn ulock<R: Wait>(
+    rt: &R,
+    hall: &Hall<MapCargo>,
+    pass: &mut Pass<MapCargo>,
+    cell: u64,
+) -> UpgradePtr
+    requires pass { IsPassOf hall.now pass.old }
+    requires cell { cell < (shape_of hall.now).locks }
+    requires away { standing (view pass.old) cell ≡ Away }
+    ensures pass { IsPassOf hall.now pass.new }
+    ensures cell { result.guard.lock ≡ cell }
+    ensures stands { standing (view pass.new) cell ≡ Upgrade }
+    ensures elsewhere { ElsewhereSame (view pass.old) (view pass.new) cell }
+    ensures step { (faults : List TryFault) × EntersUpgradeAtLast maps (view pass.old) cell faults (view pass.new) }
+    ensures steps { AddsSteps (IsPatientTry (view pass.old) cell) (view pass.old) (view pass.new) }
+{
+    let guard = wait(rt, &mut UpgradeAttempt { hall, pass, cell });
+    UpgradePtr { guard }
+}
+
 /// Waits until the cell can be written, and holds it for writing. The pass has to be away from the cell.
 ///
 /// It waits until its writer can be announced, and then until the readers have left; it stays announced between its
@@ -60,6 +86,15 @@ pub fn wlock<R: Wait>(
     ensures steps { AddsSteps (IsPatientTry (view pass.old) cell) (view pass.old) (view pass.new) }
 {
     wait(rt, &mut AnnounceAttempt { hall, pass, cell });
-    let guard = wait(rt, &mut FinishAttempt { hall, pass, cell });
+    let from_upgrade = false;
+    let guard = wait(
+        rt,
+        &mut FinishAttempt {
+            hall,
+            pass,
+            cell,
+            from_upgrade,
+        },
+    );
     WritePtr { guard }
 }

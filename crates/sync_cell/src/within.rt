@@ -2,15 +2,16 @@
 ghost use Rattle.std.specs.Prelude.{◌≡◌, ◌<◌, ℕ};
 ghost use Rattle.hall.specs.Passes.{view, IsPassOf, shape_of};
 ghost use Rattle.hall.specs.Plays.{GivesBack, Releases};
+ghost use Rattle.hall.specs.Upgrading.{LeavesUpgrade};
 ghost use Rattle.hall.specs.Views.{standing};
-ghost use Rattle.hall.specs.declared.view.Standing.TheVariants.{Away, Inline, Exclusive};
+ghost use Rattle.hall.specs.declared.view.Standing.TheVariants.{Away, Inline, Upgrade, Exclusive};
 ghost use Rattle.map_cargo.specs.History.{IsSettled};
 ghost use Rattle.sync_cell.specs.Cells.{maps};
-ghost use Rattle.sync_cell.specs.Within.{Answers, KeepsModesElsewhere, MayTake, StillHolds, TookToRead, TookToWrite, reads_at, writes_at};
+ghost use Rattle.sync_cell.specs.Within.{Answers, KeepsModesElsewhere, MayTake, StillHolds, TookToRead, TookToUpgrade, TookToWrite, reads_at, upgrades_at, writes_at};
 
-use crate::pointers::{ReadPtr, WritePtr};
-use crate::trying::{unlock_read, unlock_write};
-use crate::waiting::{rlock, wlock};
+use crate::pointers::{ReadPtr, UpgradePtr, WritePtr};
+use crate::trying::{unlock_read, unlock_upgrade_ptr, unlock_write};
+use crate::waiting::{rlock, ulock, wlock};
 use hall::{Hall, Pass};
 use map_cargo::MapCargo;
 use std::sync::Wait;
@@ -43,6 +44,37 @@ pub fn with_rlock<W: Wait, R, F: FnOnce(&Hall<MapCargo>, &mut Pass<MapCargo>, &R
     let ptr = rlock(rt, hall, pass, cell);
     let answer = f(hall, pass, &ptr);
     unlock_read(hall, pass, ptr);
+    answer
+}
+
+/// Waits until no other pass writes or holds upgrade at the cell, calls `f` once while it is held in upgrade mode, gives the cell back, and answers what
+/// `f` answered. The pass has to be away from the cell.
+///
+/// `f` must stand being called with any pass that has just taken the cell, and must leave its modes and its standing
+/// at the cell as they are. The contract holds if the call returns.
+pub fn with_ulock<W: Wait, R, F: FnOnce(&Hall<MapCargo>, &mut Pass<MapCargo>, &UpgradePtr) -> R>(
+    rt: &W,
+    hall: &Hall<MapCargo>,
+    pass: &mut Pass<MapCargo>,
+    cell: u64,
+    f: F,
+) -> R
+    requires pass { IsPassOf hall.now pass.old }
+    requires cell { cell < (shape_of hall.now).locks }
+    requires away { standing (view pass.old) cell ≡ Away }
+    requires ready { (held : _) → TookToUpgrade hall.now (view pass.old) cell held → MayTake F.FnOnce f hall.now held (upgrades_at cell) }
+    requires leaves { (held answer after : _) → TookToUpgrade hall.now (view pass.old) cell held → Answers F.FnOnce f hall.now held (upgrades_at cell) answer after → StillHolds hall.now cell Upgrade held after }
+    ensures pass { IsPassOf hall.now pass.new }
+    ensures away { standing (view pass.new) cell ≡ Away }
+    ensures elsewhere { KeepsModesElsewhere (view pass.old) (view pass.new) cell }
+    ensures step { (held : _) × (after : _) × (found : ℕ)
+        × TookToUpgrade hall.now (view pass.old) cell held
+        × Answers F.FnOnce f hall.now held (upgrades_at cell) result after
+        × LeavesUpgrade maps (view after) cell found (view pass.new) }
+{
+    let ptr = ulock(rt, hall, pass, cell);
+    let answer = f(hall, pass, &ptr);
+    unlock_upgrade_ptr(hall, pass, ptr);
     answer
 }
 

@@ -32,12 +32,12 @@ returns-in_err-wait_until-clause-steps g c = let e = c.in_err-wait_until.ensures
 pub returns-in-Ok-clause-elsewhere : goal.returns-in-Ok-clause-elsewhere
 returns-in-Ok-clause-elsewhere g c = let first = c.in_ok-wait_until.ensures.gives in let last = c.in-Ok.ensures.gives in
     let between = c.pass-1.given.1 (sym first.0) in let after = c.pass-2-1.given.1 (sym last.0) in
-    subst (λ p. ElsewhereSame (view c.args.pass.now) (view p) c.args.cell) (sym after) (λ k ne. last.5.1 k ne ∙ ap (λ p. standing (view p) k) between ∙ first.4.1 k ne)
+    subst (λ p. ElsewhereSame (view c.args.pass.now) (view p) c.args.cell) (sym after) (λ k ne. last.6.1 k ne ∙ ap (λ p. standing (view p) k) between ∙ first.4.1 k ne)
 
 pub returns-in-Ok-clause-step : goal.returns-in-Ok-clause-step
 returns-in-Ok-clause-step g c = let one = c.in_ok-wait_until.ensures in let two = c.in-Ok.ensures in
     let between = c.pass-1.given.1 (sym one.gives.0) in let after = c.pass-2-1.given.1 (sym two.gives.0) in
-    let v = view c.args.pass.now in let a = view c.pass-1.given.0 in let began = one.gives.4.2 in let ended = two.gives.5.2 in
+    let v = view c.args.pass.now in let a = view c.pass-1.given.0 in let began = one.gives.4.2 in let ended = two.gives.6.2 in
     let first = in_time g.T.Clock.last g.T.Clock.answers c.args.deadline (length began.0) (loads v) (loads (view c.wait_until.new.attempt.pass.now)) c.args.clock.now c.wait_until.new.clock one.in_time one.at_once one.early (announced_counted maps c.args.cell v (view c.wait_until.new.attempt.pass.now) began.0 began.1) in
     let second = in_time g.T.Clock.last g.T.Clock.answers c.args.deadline (length ended.0) (holds a) (holds (view c.wait_until-2.new.attempt.pass.now)) c.wait_until.new.clock c.wait_until-2.new.clock two.in_time two.at_once two.early (finished_counted maps c.args.cell a (view c.wait_until-2.new.attempt.pass.now) ended.0 ended.1) in (
       began.0,
@@ -50,21 +50,21 @@ pub returns-in-Ok-clause-steps : goal.returns-in-Ok-clause-steps
 returns-in-Ok-clause-steps g c = let one = c.in_ok-wait_until.ensures.gives in let two = c.in-Ok.ensures.gives in
     let between = c.pass-1.given.1 (sym one.0) in let after = c.pass-2-1.given.1 (sym two.0) in
     let v = view c.args.pass.now in let a = view c.pass-1.given.0 in
-    patient_writer maps v c.args.cell c.requires.away v.shape.slots one.4.2.0 two.5.2.0 a (view c.pass-2-1.given.0)
+    patient_writer maps v c.args.cell c.requires.away v.shape.slots one.4.2.0 two.6.2.0 a (view c.pass-2-1.given.0)
     (subst (λ p. AnnouncesAtLast maps v c.args.cell one.4.2.0 (view p)) (sym between) one.4.2.1)
     (subst (λ p. standing (view p) c.args.cell ≡ Announcing v.shape.slots 0 false) (sym between) one.4.0)
-    (subst (λ p. HoldsAtLast maps a c.args.cell two.5.2.0 (view p)) (sym after) two.5.2.1)
+    (subst (λ p. HoldsAtLast maps a c.args.cell two.6.2.0 (view p)) (sym after) two.6.2.1)
 
 pub returns-in-Err-clause-elsewhere : goal.returns-in-Err-clause-elsewhere
 returns-in-Err-clause-elsewhere g c = let one = c.in_ok-wait_until.ensures.gives in let r = c.in-Err.ensures.refuses in
     let between = c.pass-1.given.1 (sym one.0) in let after = c.pass-2-1.given.1 (sym r.0) in let a = view c.pass-1.given.0 in let u = view c.wait_until-2.new.attempt.pass.now in
-    let looked = meetings_looked maps a c.args.cell u (c.in-Err.late.fault ∷ r.3.0) r.3.1 in
+    let looked = meetings_looked maps a c.args.cell u (c.in-Err.late.fault ∷ r.4.0) r.4.1 in
     λ k ne. c.retract.ensures.elsewhere k ne ∙ ap (λ p. standing (view p) k) after ∙ ap (λ l. slice_index_or l k Away) looked.standings ∙ ap (λ p. standing (view p) k) between ∙ one.4.1 k ne
 
 pub returns-in-Err-clause-step : goal.returns-in-Err-clause-step
 returns-in-Err-clause-step g c = let one = c.in_ok-wait_until.ensures in let two = c.in-Err.ensures in let late = c.in-Err.late in
     let between = c.pass-1.given.1 (sym one.gives.0) in let after = c.pass-2-1.given.1 (sym two.refuses.0) in
-    let v = view c.args.pass.now in let a = view c.pass-1.given.0 in let u = view c.pass-2-1.given.0 in let z = view c.wait_until-2.new.attempt.pass.now in let began = one.gives.4.2 in let r = two.refuses.3 in
+    let v = view c.args.pass.now in let a = view c.pass-1.given.0 in let u = view c.pass-2-1.given.0 in let z = view c.wait_until-2.new.attempt.pass.now in let began = one.gives.4.2 in let r = two.refuses.4 in
     let fs : List TryFault = late.fault ∷ r.0 in
     let met : ReadersMet maps c.args.cell a fs u = subst (λ p. ReadersMet maps c.args.cell a fs (view p)) (sym after) r.1 in
     let counted : holds z ≡ holds a + (length r.0 + 1) = omega (arith, meetings_counted maps c.args.cell a z fs r.1) in
@@ -80,8 +80,8 @@ returns-in-Err-clause-step g c = let one = c.in_ok-wait_until.ensures in let two
 pub returns-in-Err-clause-steps : goal.returns-in-Err-clause-steps
 returns-in-Err-clause-steps g c = let one = c.in_ok-wait_until.ensures.gives in let r = c.in-Err.ensures.refuses in
     let between = c.pass-1.given.1 (sym one.0) in let after = c.pass-2-1.given.1 (sym r.0) in
-    let v = view c.args.pass.now in let a = view c.pass-1.given.0 in let u = view c.pass-2-1.given.0 in let fs : List TryFault = c.in-Err.late.fault ∷ r.3.0 in
-    let met : ReadersMet maps c.args.cell a fs u = subst (λ p. ReadersMet maps c.args.cell a fs (view p)) (sym after) r.3.1 in
+    let v = view c.args.pass.now in let a = view c.pass-1.given.0 in let u = view c.pass-2-1.given.0 in let fs : List TryFault = c.in-Err.late.fault ∷ r.4.0 in
+    let met : ReadersMet maps c.args.cell a fs u = subst (λ p. ReadersMet maps c.args.cell a fs (view p)) (sym after) r.4.1 in
     trying_writer maps v c.args.cell c.requires.away v.shape.slots one.4.2.0 a u (view c.retract.new.pass)
     (subst (λ p. AnnouncesAtLast maps v c.args.cell one.4.2.0 (view p)) (sym between) one.4.2.1)
     (subst (λ p. standing (view p) c.args.cell ≡ Announcing v.shape.slots 0 false) (sym between) one.4.0)

@@ -11,12 +11,12 @@ use Rattle.sync_cell.proofs.waiting.wlock.Goals as goal
 pub returns-clause-elsewhere : goal.returns-clause-elsewhere
 returns-clause-elsewhere g c = let first = c.wait.ensures.gives in let last = c.wait-guard.ensures.gives in
     let between = c.pass-1.given.1 (sym first.0) in let after = c.pass-2-1.given.1 (sym last.0) in
-    subst (λ p. ElsewhereSame (view c.args.pass.now) (view p) c.args.cell) (sym after) (λ k ne. last.5.1 k ne ∙ ap (λ p. standing (view p) k) between ∙ first.4.1 k ne)
+    subst (λ p. ElsewhereSame (view c.args.pass.now) (view p) c.args.cell) (sym after) (λ k ne. last.6.1 k ne ∙ ap (λ p. standing (view p) k) between ∙ first.4.1 k ne)
 
 pub returns-clause-step : goal.returns-clause-step
 returns-clause-step g c = let first = c.wait.ensures.gives in let last = c.wait-guard.ensures.gives in
     let between = c.pass-1.given.1 (sym first.0) in let after = c.pass-2-1.given.1 (sym last.0) in
-    let v = view c.args.pass.now in let a = view c.pass-1.given.0 in let began = first.4.2 in let ended = last.5.2 in (
+    let v = view c.args.pass.now in let a = view c.pass-1.given.0 in let began = first.4.2 in let ended = last.6.2 in (
       began.0,
       ended.0,
       (a, subst (λ p. AnnouncesAtLast maps v c.args.cell began.0 (view p)) (sym between) began.1, subst (λ p. HoldsAtLast maps a c.args.cell ended.0 (view p)) (sym after) ended.1),

@@ -1,22 +1,24 @@
 use Rattle.std.proofs.Common.{refl}
 use Rattle.std.proofs.lemmas.Result.{MatchResult-weaker}
+use Rattle.hall.specs.declared.view.Standing.TheVariants.{Inline}
 use Rattle.hall.specs.Passes.{view}
+use Rattle.shared_mutex.specs.Acquiring.{RefusesShared, TakesShared}
 use Rattle.sync_cell.specs.Cells.{maps}
-use Rattle.sync_cell.proofs.Tried.{tried_entered, tried_fault, tried_once, tried_outside}
+use Rattle.sync_cell.proofs.Tried.{entered_fault, entered_once, tried_refused, tried_won}
 use Rattle.sync_cell.proofs.attempts.ReadAttemptAttempt.attempt.Goals as goal
 
 pub returns-clause-tries : goal.returns-clause-tries
 returns-clause-tries c = let v = view c.args.self.now.pass.now in let w = view c.try_lock_shared.new.pass in
-    tried_once maps v c.args.self.now.cell w c.try_lock_shared.result c.try_lock_shared.ensures.step
+    entered_once maps v c.args.self.now.cell w _ c.try_lock_shared.result c.try_lock_shared.ensures.step
 
 pub returns-clause-fault : goal.returns-clause-fault
 returns-clause-fault c = let v = view c.args.self.now.pass.now in let w = view c.try_lock_shared.new.pass in
-    tried_fault maps v c.args.self.now.cell w c.try_lock_shared.result c.try_lock_shared.ensures.step
+    entered_fault maps v c.args.self.now.cell w _ c.try_lock_shared.result c.try_lock_shared.ensures.step
 
 pub returns-clause-gives : goal.returns-clause-gives
-returns-clause-gives c = let v = view c.args.self.now.pass.now in let w = view c.try_lock_shared.new.pass in let e = c.try_lock_shared.ensures in
-    MatchResult-weaker c.try_lock_shared.result (tried_entered maps v c.args.self.now.cell w c.try_lock_shared.result e.step e.stands e.elsewhere) (λ guard t. (refl, refl, refl, e.pass, t.0, t.1)) (λ f t. tt)
+returns-clause-gives c = let v = view c.args.self.now.pass.now in let w = view c.try_lock_shared.new.pass in let e = c.try_lock_shared.ensures in let cell = c.args.self.now.cell in
+    MatchResult-weaker c.try_lock_shared.result (tried_won (λ v w f. RefusesShared maps v cell w f) (λ v w. TakesShared maps v cell w) v w _ Inline cell c.try_lock_shared.result e.step e.stands e.elsewhere) (λ guard t. (refl, refl, refl, e.pass, t.0, t.1)) (λ f t. tt)
 
 pub returns-clause-refuses : goal.returns-clause-refuses
-returns-clause-refuses c = let v = view c.args.self.now.pass.now in let w = view c.try_lock_shared.new.pass in let e = c.try_lock_shared.ensures in
-    MatchResult-weaker c.try_lock_shared.result (tried_outside maps v c.args.self.now.cell w c.try_lock_shared.result e.step) (λ guard t. tt) (λ f t. (refl, refl, refl, t))
+returns-clause-refuses c = let v = view c.args.self.now.pass.now in let w = view c.try_lock_shared.new.pass in let e = c.try_lock_shared.ensures in let cell = c.args.self.now.cell in
+    MatchResult-weaker c.try_lock_shared.result (tried_refused (λ v w f. RefusesShared maps v cell w f) (λ v w. TakesShared maps v cell w) v w _ c.try_lock_shared.result e.step) (λ guard t. tt) (λ f t. (refl, refl, refl, t))

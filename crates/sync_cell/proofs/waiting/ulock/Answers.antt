@@ -1,0 +1,9 @@
+use Rattle.std.proofs.Common.{rules}
+use Rattle.hall.specs.Passes.{view}
+use Rattle.sync_cell.specs.Cells.{maps}
+use Rattle.sync_cell.proofs.Acquired.{patient_upgrader}
+use Rattle.sync_cell.proofs.waiting.ulock.Goals as goal
+
+pub returns-clause-steps : goal.returns-clause-steps
+returns-clause-steps g c = let taken = c.wait-guard.ensures.gives.5.2 in
+    let steps = patient_upgrader maps (view c.args.pass.now) c.args.cell c.requires.away taken.0 (view c.wait-guard.new.attempt.pass.now) taken.1 in search rules
