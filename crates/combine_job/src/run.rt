@@ -1,6 +1,6 @@
 //! A job runs on a kept value.
 ghost use Rattle.std.specs.Prelude.{◌≡◌, ℕ, ◌+◌, ◌^◌, ◌<◌, ◌≤◌, [], ◌∷◌, ◌++◌};
-ghost use Rattle.combine_job.specs.Parcels.{Related};
+ghost use Rattle.combine_job.specs.Parcels.{Related, IsJob};
 ghost use Rattle.combine_job.specs.declared.parcel.Parcel.TheVariants.{Value, Posted, Answered};
 
 use crate::job::{Job, Room};
@@ -45,5 +45,28 @@ pub fn run_listed<V: Room, J: Job<V>>(
     let answered = Parcel::<V, J>::Answered(run_kept(kept, posted.into_job()));
     let after = Snapshot::of(&answered);
     runs.add(&before, &after);
+    answered.into_answer()
+}
+
+/// Runs once the job that the owner had posted, and lists it with its answer among those that the owner has run for itself.
+/// It was paid for as it was posted.
+pub fn run_taken<V: Room, J: Job<V>>(
+    kept: &mut Kept<V>,
+    runs: &mut OwnRuns<Parcel<V, J>>,
+    posted: Parcel<V, J>,
+) -> JobAnswer<J::Out, J::Fault>
+    requires room { 1 ≤ V.rooms kept.old.value }
+    requires count { kept.old.ran + 1 < 2 ^ 64 }
+    requires ready { IsJob J.is_ready posted }
+    ensures position { result.at ≡ kept.old.ran }
+    ensures counted { kept.new.ran ≡ kept.old.ran + 1 }
+    ensures related { Related V.rooms J.means (Value kept.old) posted (Answered result) (Value kept.new) }
+    ensures listed { runs.new.log.items ≡ runs.old.log.items ++ (posted, Answered result) ∷ [] }
+    ensures due { runs.new.count ≡ runs.old.count }
+{
+    let before = Snapshot::of(&posted);
+    let answered = Parcel::<V, J>::Answered(run_kept(kept, posted.into_job()));
+    let after = Snapshot::of(&answered);
+    runs.add_posted(&before, &after);
     answered.into_answer()
 }

@@ -1,7 +1,6 @@
 -- A pass that takes the lock for one job.
-use Rattle.std.proofs.Common.{◌≡◌, ℕ, ◌≤◌, Result, Option, None, List, [], ◌∷◌, ◌++◌, length, false, ap, ◌∙◌, subst, ⊎_elim, arith, cond}
+use Rattle.std.proofs.Common.{◌≡◌, ℕ, ◌≤◌, Result, List, [], ◌∷◌, ◌++◌, false, ap, ◌∙◌, ⊎_elim, arith, cond}
 use Rattle.std.proofs.lemmas.Bool.{le-ltb}
-use Rattle.atomic_table.specs.Table.{rest}
 use Rattle.waiter_chain.specs.Steps.{SeatState}
 use Rattle.waiter_chain.specs.Calls.{readied_state}
 use Rattle.waiter_chain.specs.declared.view.Opening.{Opening}
@@ -10,8 +9,7 @@ use Rattle.waiter_chain.specs.declared.turn.Turn.{Turn}
 use Rattle.combine_job.specs.declared.parcel.Kept.{Kept}
 use Rattle.combine_job.specs.declared.parcel.Parcel.{Parcel}
 use Rattle.combine_job.specs.Parcels.{place, places}
-use Rattle.dist_mutex.specs.declared.owner.Next.{Next}
-use Rattle.dist_mutex.specs.Owners.{ReleasedAs, Stands, Owning, LockedBy, WonLock, Spent, RanOne, behind_state, polled_state}
+use Rattle.dist_mutex.specs.Owners.{Stands, Owning, LockedBy, WonLock, Spent, RanOne, behind_state, polled_state}
 
 module _ {V J O X : Type 0} (rooms : V → ℕ) (means : V → J → Result O X → V → Type 0) (o : Opening (Parcel V J O X)) where
   -- what a lock leaves of the view, and what it tells
@@ -28,10 +26,6 @@ module _ {V J O X : Type 0} (rooms : V → ℕ) (means : V → J → Result O X 
       (λ l. of-locked slots (readied_state false m) n _ t kept l)
       (λ w. of-locked slots (polled_state w.1 (behind_state w.0 m)) n _ t kept w.3)
 
-  -- who has just won the lock has slot 0 alone in hand
-  pub won_hand : (slots : ℕ) (m n : SeatState (Parcel V J O X)) (t : Turn) (kept : Kept V) → WonLock rooms means o slots m n t kept → n.1 ≡ (0, None) ∷ []
-  won_hand slots m n t kept = ⊎_elim (λ l. ap (λ (z : SeatState (Parcel V J O X)). z.1) l.0) (λ w. ap (λ (z : SeatState (Parcel V J O X)). z.1) w.3.0)
-
   -- the pass's own answers lie below the count
   pub own_below : (own : List (Parcel V J O X × Parcel V J O X)) (q : ℕ) (kept : Kept V) → Stands rooms means o own q kept → (p : ℕ) → kept.ran ≤ p → places p own ≡ 0
   own_below own q kept s p far = omega (arith, s.mine (λ x. place p x.1), s.once p, ap {B = ℕ} (λ b. cond b 1 0) (le-ltb p kept.ran far))
@@ -41,12 +35,3 @@ module _ {V J O X : Type 0} where
       → (l.0.number ≡ m.0.number) × (l.0.spare ≡ m.0.spare) × (l.0.past ≡ m.0.past) × (l.0.quota ≡ m.0.quota) × (l.0.own ≡ m.0.own) → Spent most due ran l n → RanOne m n job answer
   ran_one most due m l n ran job answer is one enough a s =
       (s.0, s.1 ∙ a.0, s.2 ∙ a.1, s.3 ∙ a.2, omega (arith, s.4, a.3, one, enough), s.5 ∙ (λ i. a.4 i ++ is i))
-
-module _ {P : Type 0} where
-  -- an unlock of the same pass, after the same jobs
-  pub released_at : (slots due : ℕ) (ran made : List (P × P)) (t u : Turn) (m l : SeatState P) (hand was : Option P) (n : SeatState P) (x : Next) → due ≡ 1 → ran ≡ made → t ≡ u → m ≡ l → l.1 ≡ (0, was) ∷ []
-      → ReleasedAs slots due ran t (m.0, (0, hand) ∷ rest m.1) n x → ReleasedAs slots 1 made u (l.0, (0, hand) ∷ []) n x
-  released_at slots due ran made t u m l hand was n x one a b c alone h =
-      subst (λ (z : ℕ × List (P × P)). ReleasedAs slots z.0 z.1 u (l.0, (0, hand) ∷ []) n x) (λ i. (one i, a i))
-      (subst (λ (z : Turn). ReleasedAs slots due ran z (l.0, (0, hand) ∷ []) n x) b
-      (subst (λ (z : SeatState P). ReleasedAs slots due ran t z n x) (λ i. ((c i).0, (0, hand) ∷ (ap (λ (z : SeatState P). rest z.1) c ∙ ap (λ (y : List (ℕ × Option P)). rest y) alone) i)) h))

@@ -46,18 +46,18 @@ counts_more none ran x due now more c = omega (arith, more, c, longer ran x)
 counts_more (some j) ran x due now more c = (omega (arith, more, c.0, longer ran x), (c.1.0, c.1.1, still_at ran (x ∷ []) c.1.0 (j, c.1.1) c.1.2))
 
 module _ {V J O X : Type 0} (rooms : V → ℕ) (means : V → J → Result O X → V → Type 0) (is_ready : J → Type 0) (o : Opening (Parcel V J O X)) where
-  pub stands : (y : Parcel V J O X) (q : ℕ) (own : List (Parcel V J O X × Parcel V J O X)) → Sound (Ruled rooms means is_ready o) y (part q own) → (kept : Kept V) × (y ≡ Value kept) × Stands rooms means o own q kept
-  stands y q own s =
+  pub stands : (y : Parcel V J O X) (n q : ℕ) (own : List (Parcel V J O X × Parcel V J O X)) → Sound (Ruled rooms means is_ready o) y (part n q own) → (kept : Kept V) × (y ≡ Value kept) × Stands rooms means o own q kept
+  stands y n q own s =
       let g : Goods (Parcel V J O X) = s.0 in let r : Ruled rooms means is_ready o g = s.1 in
       let runs : Runs (Related rooms means) o.first.value r.history (Value r.now) = subst (Runs (Related rooms means) o.first.value r.history) r.is r.runs in
-      let enough = term_le (λ (x : Part (Parcel V J O X)). x.quota) g.parts s.3.0 (part q own) s.3.1 in (
+      let enough = term_le (λ (x : Part (Parcel V J O X)). x.quota) g.parts s.3.0 (part n q own) s.3.1 in (
         r.now,
         sym s.2 ∙ r.is,
         record {
           history = r.history;
           runs = runs;
           once = history-once rooms means r.history o.first.value (Value r.now) r.first r.now r.began refl r.none_ran runs;
-          mine = λ w. omega (arith, term_le (λ (x : Part (Parcel V J O X)). total w x.own) g.parts s.3.0 (part q own) s.3.1, r.answers w);
+          mine = λ w. omega (arith, term_le (λ (x : Part (Parcel V J O X)). total w x.own) g.parts s.3.0 (part n q own) s.3.1, r.answers w);
           room = omega (arith, r.room, enough);
           count = omega (arith, r.paid, enough);
           small = r.small;
@@ -68,7 +68,7 @@ module _ {V J O X : Type 0} (rooms : V → ℕ) (means : V → J → Result O X 
       → w.0 ≡ Value kept → n ≡ (old.0, (0, None) ∷ []) → LockedBy rooms means o slots m n e t kept
   locks slots t m old n e kept w same now =
       let y : Parcel V J O X = w.0 in
-      let s = stands y m.0.quota m.0.own w.3 in
+      let s = stands y m.0.number m.0.quota m.0.own w.3 in
       let known : Stands rooms means o m.0.own m.0.quota kept = subst (Stands rooms means o m.0.own m.0.quota) (value-injective {J = J} {O = O} {X = X} s.0 kept (sym s.1 ∙ same)) s.2 in
       let view : old.0 ≡ moved m.0 (Owns (ownership t.first t.end t.mark false (Value kept))) e = ap (λ (x : SeatState (Parcel V J O X)). x.0) w.1 ∙ ap (λ (z : Parcel V J O X). moved m.0 (Owns (ownership t.first t.end t.mark false z)) e) same in
       let state : n ≡ (moved m.0 (Owns (ownership t.first t.end t.mark false (Value kept))) e, (0, None) ∷ []) = now ∙ ap (λ (v : View (Parcel V J O X)). (v, (0, None) ∷ [])) view in
@@ -110,7 +110,7 @@ module _ {V J O X : Type 0} (rooms : V → ℕ) (means : V → J → Result O X 
 
   -- where no other pass has anything left, the closing pass's answers are those of the history
   pub all_answers : (v : View (Parcel V J O X)) (g : Goods (Parcel V J O X)) → Ruled rooms means is_ready o g → ((n : ℕ) → n < o.nodes → g.answered n ≡ none)
-      → ((w : Part (Parcel V J O X) → ℕ) → w (part 0 []) ≡ 0 → total w g.parts ≡ w (part_of v)) → Ends rooms means o v.own (kept_in g.value)
+      → ((w : Part (Parcel V J O X) → ℕ) → w (part 0 0 []) ≡ 0 → total w g.parts ≡ w (part_of v)) → Ends rooms means o v.own (kept_in g.value)
   all_answers v g r no-answer alone =
       let runs : Runs (Related rooms means) o.first.value r.history (Value r.now) = subst (Runs (Related rooms means) o.first.value r.history) r.is r.runs in
       let same : (w : Parcel V J O X × Parcel V J O X → ℕ) → total w v.own ≡ total w r.history = λ w. omega (arith, alone (λ (x : Part (Parcel V J O X)). total w x.own) refl, r.answers w, below-none (weight w) g.answered o.nodes refl no-answer) in

@@ -4,3 +4,5 @@ pub mod Waits
 pub mod Combines
 pub mod Faults
 pub mod Shown
+pub mod Unlocking
+pub mod Running

@@ -5,7 +5,7 @@ use Rattle.waiter_chain.specs.Calls.{IsBehind}
 use Rattle.waiter_chain.specs.declared.view.Entry.{Entry}
 use Rattle.waiter_chain.specs.declared.view.Stage.TheVariants.{Behind}
 use Rattle.waiter_chain.specs.declared.view.Event.TheVariants.{LoadStatus}
-use Rattle.dist_mutex.specs.Owners.{polled_state}
+use Rattle.dist_mutex.specs.Owners.{polled_as, polled_state}
 
 append_nil : {A : Type 0} (xs : List A) → xs ≡ xs ++ []
 append_nil [] = refl
@@ -16,13 +16,13 @@ replicate-snoc zero x = refl
 replicate-snoc (suc k) x = ap (λ ys. x ∷ ys) (replicate-snoc k x)
 
 module _ {P : Type 0} where
-  pub polled-none : (m : SeatState P) → m ≡ polled_state 0 m
-  polled-none m = ap (λ (xs : List Entry). (with_steps m.0 m.0.stage xs, m.1)) (append_nil m.0.steps)
+  pub polled-none : (word : ℕ) (m : SeatState P) → m ≡ polled_as word 0 m
+  polled-none word m = ap (λ (xs : List Entry). (with_steps m.0 m.0.stage xs, m.1)) (append_nil m.0.steps)
 
-  pub polled-more : (m : SeatState P) (k w : ℕ) → w ≡ 1 → stays (polled_state k m) (entry (polled_state k m).0 LoadStatus (1 + 2 * (polled_state k m).0.number) w) ≡ polled_state (suc k) m
-  polled-more m k w one =
-      let e : Entry = entry m.0 LoadStatus (1 + 2 * m.0.number) 1 in
-      ap (λ (x : ℕ). stays (polled_state k m) (entry m.0 LoadStatus (1 + 2 * m.0.number) x)) one
+  pub polled-more : (word : ℕ) (m : SeatState P) (k w : ℕ) → w ≡ word → stays (polled_as word k m) (entry (polled_as word k m).0 LoadStatus (1 + 2 * (polled_as word k m).0.number) w) ≡ polled_as word (suc k) m
+  polled-more word m k w one =
+      let e : Entry = entry m.0 LoadStatus (1 + 2 * m.0.number) word in
+      ap (λ (x : ℕ). stays (polled_as word k m) (entry m.0 LoadStatus (1 + 2 * m.0.number) x)) one
       ∙ ap (λ (xs : List Entry). (with_steps m.0 m.0.stage xs, m.1)) (append_assoc m.0.steps (replicate k e) (e ∷ []) ∙ ap (λ xs. m.0.steps ++ xs) (replicate-snoc k e))
 
   -- so it waits still

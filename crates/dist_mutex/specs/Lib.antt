@@ -3,3 +3,4 @@ pub mod Passes
 pub mod Shows
 pub mod Tries
 pub mod TryLaws
+pub mod Unlocks

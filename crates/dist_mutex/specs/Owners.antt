@@ -3,21 +3,19 @@ use Rattle.std.specs.Prelude.{◌≡◌, ◌≢◌, ◌⊎◌, ℕ, ◌+◌, ◌
 use Rattle.view_sums.specs.Sums.{total}
 use Rattle.waiter_chain.specs.Goods.{Runs, Counts}
 use Rattle.waiter_chain.specs.Chains.{owed}
-use Rattle.waiter_chain.specs.Steps.{SeatState, ownership, entry, moved, ended, with_steps}
-use Rattle.waiter_chain.specs.Calls.{IsIdle, OwnsBy, FollowsAs, readied_state}
+use Rattle.waiter_chain.specs.Steps.{SeatState, ownership, entry, moved, with_steps}
+use Rattle.waiter_chain.specs.Calls.{IsIdle, OwnsBy, readied_state}
 use Rattle.waiter_chain.specs.declared.view.Opening.{Opening}
 use Rattle.waiter_chain.specs.declared.view.Entry.{Entry}
 use Rattle.waiter_chain.specs.declared.view.Ownership.{Ownership}
-use Rattle.waiter_chain.specs.declared.view.Event.TheVariants.{SwapIn, LoadStatus, Grant}
+use Rattle.waiter_chain.specs.declared.view.Event.TheVariants.{SwapIn, LoadStatus}
 use Rattle.waiter_chain.specs.declared.view.Stage.TheVariants.{Behind, Owns}
 use Rattle.waiter_chain.specs.declared.turn.Turn.{Turn}
-use Rattle.waiter_chain.specs.declared.turn.Follow.TheVariants as follow
 use Rattle.combine_job.specs.declared.parcel.Kept.{Kept}
 use Rattle.combine_job.specs.declared.parcel.Parcel.{Parcel}
 use Rattle.combine_job.specs.declared.parcel.Parcel.TheVariants.{Value}
 use Rattle.combine_job.specs.Parcels.{Related, EachOnce}
-use Rattle.dist_mutex.specs.declared.owner.Next.{Next}
-use Rattle.dist_mutex.specs.declared.owner.Next.TheVariants as next
+use Rattle.dist_mutex.specs.Unlocks.{Unlocked}
 
 module _ {P : Type 0} where
   -- the pass is idle, and has run no job of its own since it was the owner
@@ -28,14 +26,13 @@ module _ {P : Type 0} where
   abbrev pub behind_state : ℕ → SeatState P → SeatState P
   behind_state b m = (moved (readied_state false m).0 (Behind b None) (entry m.0 SwapIn 0 b), [])
 
-  -- the pass has found its own status 1 so many times
-  abbrev pub polled_state : ℕ → SeatState P → SeatState P
-  polled_state k m = (with_steps m.0 m.0.stage (m.0.steps ++ replicate k (entry m.0 LoadStatus (1 + 2 * m.0.number) 1)), m.1)
+  -- the pass has found this in its own status so many times
+  abbrev pub polled_as : ℕ → ℕ → SeatState P → SeatState P
+  polled_as word k m = (with_steps m.0 m.0.stage (m.0.steps ++ replicate k (entry m.0 LoadStatus (1 + 2 * m.0.number) word)), m.1)
 
-  -- the ownership has ended: the lock was freed by one exchange, or the next node was made the owner by one store
-  abbrev pub ReleasedAs : ℕ → ℕ → List (P × P) → Turn → SeatState P → SeatState P → Next → Type 0
-  ReleasedAs slots due ran t m n next.Free = FollowsAs slots due ran t m n follow.Free
-  ReleasedAs slots due ran t m n (next.Plain x) = (l : SeatState P) × (u : Turn) × FollowsAs slots due ran t m l (follow.Waits u x) × (n ≡ (ended l.0 due ran (entry l.0 Grant (1 + 2 * (u.first - 2)) (u.end + 4)), []))
+  -- it was 1, so that the pass waits with no job
+  abbrev pub polled_state : ℕ → SeatState P → SeatState P
+  polled_state k m = polled_as 1 k m
 
   -- the pass is idle again: its quota has fallen by the number of jobs that were due, these jobs and their answers stand at the end of its list, and it made at most so many steps
   abbrev pub Spent : ℕ → ℕ → List (P × P) → SeatState P → SeatState P → Type 0
@@ -80,10 +77,10 @@ module _ {V J O X : Type 0} (rooms : V → ℕ) (means : V → J → Result O X 
   WonLock o slots m n t kept = LockedBy o slots (readied_state false m) n (entry m.0 SwapIn 0 0) t kept
       ⊎ ((b : ℕ) × (k : ℕ) × (b ≢ 0) × LockedBy o slots (polled_state k (behind_state b m)) n (entry m.0 LoadStatus (1 + 2 * m.0.number) (t.end + 4)) t kept)
 
-  -- all steps of a pass that took the lock, ran one job and gave the lock up: those of the lock, by which it found the first value, and those of the unlock, which put back what the job made of it
-  abbrev pub Combined : Opening (Parcel V J O X) → ℕ → SeatState (Parcel V J O X) → SeatState (Parcel V J O X) → Parcel V J O X → Parcel V J O X → Kept V → Kept V → Next → Type 0
-  Combined o slots m n job answer found left next = (l : SeatState (Parcel V J O X)) × (t : Turn) × WonLock o slots m l t found × Related rooms means (Value found) job answer (Value left)
-      × ReleasedAs slots 1 ((job, answer) ∷ []) t (l.0, (0, Some (Value left)) ∷ []) n next
+  -- all steps of a pass that took the lock, ran one job and gave the lock up: those of the lock, by which it found the first value, and those of the unlock
+  abbrev pub Combined : ℕ → Opening (Parcel V J O X) → ℕ → SeatState (Parcel V J O X) → SeatState (Parcel V J O X) → Parcel V J O X → Parcel V J O X → Kept V → Kept V → Type 0
+  Combined limit o slots m n job answer found left = (l : SeatState (Parcel V J O X)) × (t : Turn) × WonLock o slots m l t found × Related rooms means (Value found) job answer (Value left)
+      × ((made : List Entry) × (n.0.steps ≡ l.0.steps ++ made) × Unlocked l.0.number limit t made)
 
   -- the lock ends with a value that the whole history made, and these jobs are exactly those of the history, each with its answer
   abbrev pub Ends : Opening (Parcel V J O X) → List (Parcel V J O X × Parcel V J O X) → Option (Kept V) → Type 0

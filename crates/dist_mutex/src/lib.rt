@@ -12,12 +12,14 @@
 //! the whole history, each once. The steps of each call are told exactly. Nothing is promised of a wait's end.
 #![tactic(auto)]
 
+pub mod combine;
 #[cfg(test)]
 mod crowd;
 pub mod lock;
 pub mod mutex;
 pub mod owner;
 pub mod pass;
+pub mod release;
 #[cfg(test)]
 mod tests;
 pub mod timed;

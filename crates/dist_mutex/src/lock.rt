@@ -1,4 +1,4 @@
-//! How a distributed lock is taken, worked under and given up.
+//! How a distributed lock is taken, and how its owner runs jobs of its own.
 ghost use Rattle.std.specs.Prelude.{◌≡◌, ◌≢◌, ◌⊎◌, ◌+◌, ◌-◌, ◌*◌, ◌<◌, ◌≤◌, ℕ, [], ◌∷◌, ◌++◌, MatchResult, Some, None};
 ghost use Rattle.atomic_table.specs.Table.{rest};
 ghost use Rattle.waiter_chain.specs.Steps.{SeatState, entry};
@@ -8,20 +8,18 @@ ghost use Rattle.waiter_chain.specs.declared.view.Entry.{Entry};
 ghost use Rattle.combine_job.specs.declared.parcel.Kept.{Kept};
 ghost use Rattle.combine_job.specs.declared.parcel.Parcel.TheVariants.{Value, Posted, Answered};
 ghost use Rattle.combine_job.specs.Parcels.{Related, Ruled, places};
-ghost use Rattle.dist_mutex.specs.Owners.{Owning, LockedBy, WonLock, polled_state, ReleasedAs, Spent, RanOne, Combined};
-ghost use Rattle.dist_mutex.specs.declared.owner.Next.{Next};
+ghost use Rattle.dist_mutex.specs.Owners.{Owning, LockedBy, WonLock, polled_state};
 ghost use Rattle.dist_mutex.specs.Passes.{opening_of, slots_of, dist_state, dist_view, runs_of, due_of, HasNoRuns, IsDistPassOf, IsSamePass, IsAtRest};
 
 use crate::mutex::DistMutex;
-use crate::owner::{Next, Owner, Released};
+use crate::owner::Owner;
 use crate::pass::DistPass;
 use combine_job::job::{Job, Room};
-use combine_job::parcel::{JobAnswer, Parcel};
+use combine_job::parcel::JobAnswer;
 use combine_job::run::run_listed;
 use std::sync::Wait;
 use std::thread;
-use waiter_chain::runs::OwnRuns;
-use waiter_chain::turn::{DistBusy, Entered, Follow, Kind, Polled, Turn};
+use waiter_chain::turn::{DistBusy, Entered, Kind, Polled, Turn};
 
 impl<V: Room, J: Job<V>> DistMutex<V, J> {
     // The owner moves the value out of slot 0 into its hand.
@@ -104,68 +102,5 @@ impl<V: Room, J: Job<V>> DistMutex<V, J> {
         ensures owner { Owning V.rooms J.means (slots_of self.now) (dist_state pass.new) (due_of pass.new) (runs_of pass.new) owner.new.turn owner.new.kept }
     {
         run_listed(&mut owner.kept, &mut pass.runs, job)
-    }
-
-    // The value stands in slot 0 again.
-    fn hand_over(&self, pass: &mut DistPass<V, J>, turn: Turn) -> Next
-        requires own { IsDistPassOf self.now pass.old }
-        requires turn { HasTurn (slots_of self.now) turn (dist_state pass.old) }
-        requires ends { MayEnd (Related V.rooms J.means) (due_of pass.old) (runs_of pass.old) (dist_state pass.old) }
-        ensures own { IsSamePass pass.old pass.new }
-        ensures runs { HasNoRuns pass.new }
-        ensures released { ReleasedAs (slots_of self.now) (due_of pass.old) (runs_of pass.old) turn (dist_state pass.old) (dist_state pass.new) result }
-    {
-        let next = match self.chain.next(&mut pass.pass, turn, &pass.runs) {
-            Follow::Free => Next::Free,
-            Follow::Waits { turn, node } => {
-                self.chain.grant(&mut pass.pass, turn, &pass.runs);
-                Next::Plain(node)
-            }
-        };
-        pass.runs = OwnRuns::new();
-        next
-    }
-
-    /// Gives the lock up: to the next node of the owner's chain, or where nobody came, to nobody. The answers of the jobs
-    /// that the owner ran stand in the pass's own list from then on.
-    pub fn unlock(&self, pass: &mut DistPass<V, J>, owner: Owner<V>) -> Released
-        requires own { IsDistPassOf self.now pass.old }
-        requires owner { Owning V.rooms J.means (slots_of self.now) (dist_state pass.old) (due_of pass.old) (runs_of pass.old) owner.turn owner.kept }
-        ensures own { IsSamePass pass.old pass.new }
-        ensures combined { result.combined ≡ 0 }
-        ensures runs { HasNoRuns pass.new }
-        ensures spent { Spent 3 (due_of pass.old) (runs_of pass.old) (dist_state pass.old) (dist_state pass.new) }
-        ensures released { ReleasedAs (slots_of self.now) (due_of pass.old) (runs_of pass.old) owner.turn (dist_view pass.old, (0, Some (Value owner.kept)) ∷ rest (dist_state pass.old).1) (dist_state pass.new) result.next }
-    {
-        let Owner { turn, kept } = owner;
-        let value = Some(Parcel::Value(kept));
-        let _empty = self.chain.move_slot(&mut pass.pass, 0, value);
-        let next = self.hand_over(pass, turn);
-        Released { combined: 0, next }
-    }
-
-    /// Takes the lock, runs the job, and gives the lock up. The quota falls by 1, and the answer stands at the end of the
-    /// pass's own list, at a position above all that stood there.
-    pub fn lock_combine<R: Wait>(
-        &self,
-        rt: &R,
-        pass: &mut DistPass<V, J>,
-        job: J,
-    ) -> JobAnswer<J::Out, J::Fault>
-        requires own { IsDistPassOf self.now pass.old }
-        requires idle { IsAtRest pass.old }
-        requires quota { 1 ≤ (dist_view pass.old).quota }
-        requires ready { J.is_ready job }
-        ensures own { IsSamePass pass.old pass.new }
-        ensures runs { HasNoRuns pass.new }
-        ensures answered { RanOne (dist_state pass.old) (dist_state pass.new) (Posted job) (Answered result) }
-        ensures related { (v : Kept V) × (w : Kept V) × Related V.rooms J.means (Value v) (Posted job) (Answered result) (Value w) }
-        ensures steps { (v : Kept V) × (w : Kept V) × (x : Next) × Combined V.rooms J.means (opening_of self.now) (slots_of self.now) (dist_state pass.old) (dist_state pass.new) (Posted job) (Answered result) v w x }
-        ensures rises { (p : ℕ) → result.at ≤ p → places p (dist_view pass.old).own ≡ 0 }
-    {
-        let mut owner = self.lock(rt, pass);
-        let answer = self.run_owned(pass, &mut owner, job);
-        let _released = self.unlock(pass, owner);
-        answer
     }
 }

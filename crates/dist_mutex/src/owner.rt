@@ -41,4 +41,8 @@ pub enum Next {
     Free,
     /// The node of this number, which waits for the lock itself.
     Plain(u64),
+    /// The node of this number, which waits with a job, since the unlock has run as many jobs as the lock's limit allows.
+    Spent(u64),
+    /// The node of this number, which waits with a job and had not linked yet.
+    Unlinked(u64),
 }

@@ -147,6 +147,8 @@ fn waiters_get_the_lock_in_turn(rt: HostRuntime) -> Result<(), Fail> {
     match released.next {
         Next::Free => panic!(rt; "freed while three nodes wait"),
         Next::Plain(node) => assert!(rt; node == 3),
+        Next::Spent(_job) => panic!(rt; "a job waits"),
+        Next::Unlinked(_job) => panic!(rt; "a job waits"),
     }
     match bank.try_lock(&mut zero) {
         Ok(_owner) => panic!(rt; "two owners"),
@@ -160,6 +162,8 @@ fn waiters_get_the_lock_in_turn(rt: HostRuntime) -> Result<(), Fail> {
             match bank.unlock(&mut three, owner).next {
                 Next::Free => panic!(rt; "freed while two nodes wait"),
                 Next::Plain(node) => assert!(rt; node == 2),
+                Next::Spent(_job) => panic!(rt; "a job waits"),
+                Next::Unlinked(_job) => panic!(rt; "a job waits"),
             }
         }
     }
@@ -171,6 +175,8 @@ fn waiters_get_the_lock_in_turn(rt: HostRuntime) -> Result<(), Fail> {
             match bank.unlock(&mut two, owner).next {
                 Next::Free => panic!(rt; "freed while a node waits"),
                 Next::Plain(node) => assert!(rt; node == 1),
+                Next::Spent(_job) => panic!(rt; "a job waits"),
+                Next::Unlinked(_job) => panic!(rt; "a job waits"),
             }
         }
     }
@@ -182,6 +188,8 @@ fn waiters_get_the_lock_in_turn(rt: HostRuntime) -> Result<(), Fail> {
             match bank.unlock(&mut one, owner).next {
                 Next::Free => {}
                 Next::Plain(_node) => panic!(rt; "somebody else waits"),
+                Next::Spent(_job) => panic!(rt; "a job waits"),
+                Next::Unlinked(_job) => panic!(rt; "a job waits"),
             }
         }
     }
@@ -221,6 +229,8 @@ fn an_owner_runs_jobs_at_rising_positions(rt: HostRuntime) -> Result<(), Fail> {
     match bank.unlock(&mut pass, owner).next {
         Next::Free => {}
         Next::Plain(_node) => panic!(rt; "somebody waits"),
+        Next::Spent(_job) => panic!(rt; "a job waits"),
+        Next::Unlinked(_job) => panic!(rt; "a job waits"),
     }
     let owner = bank.lock(&rt, &mut pass);
     assert!(rt; owner.ran() == 2);

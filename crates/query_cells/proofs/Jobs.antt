@@ -26,13 +26,13 @@ ran_on job answer v w t =
     (ledger, ap (λ (x : JobAnswer LedgerTold LedgerTrouble). x.result) same_answer ∙ t.10.0 ∙ ap (λ (x : LedgerJob). result_of ledger.rows (accounts_in ledger) x.act) same_job)
 
 -- the pass took the lock, ran one job and gave the lock up
-pub owned_answer : (o : Opening LedgerParcel) (slots : ℕ) (m l r n : SeatState LedgerParcel) (early due : ℕ) (before ran : List (LedgerParcel × LedgerParcel)) (t : Turn) (kept later : Kept LedgerView) (job : LedgerJob) (answer : JobAnswer LedgerTold LedgerTrouble)
+pub owned_answer : {most : ℕ} (o : Opening LedgerParcel) (slots : ℕ) (m l r n : SeatState LedgerParcel) (early due : ℕ) (before ran : List (LedgerParcel × LedgerParcel)) (t : Turn) (kept later : Kept LedgerView) (job : LedgerJob) (answer : JobAnswer LedgerTold LedgerTrouble)
     → 1 ≤ m.0.quota → WonLock rooms Means o slots m l t kept → (before ≡ []) × (early ≡ 0) → r ≡ l → ran ≡ before ++ (Posted job, Answered answer) ∷ [] → due ≡ early + 1
-    → answer.at ≡ kept.ran → Related rooms Means (Value kept) (Posted job) (Answered answer) (Value later) → Spent 3 due ran r n → AnswersJob job answer m.0 n.0
-owned_answer o slots m l r n early due before ran t kept later job answer enough won none same listed more at related spent =
+    → answer.at ≡ kept.ran → Related rooms Means (Value kept) (Posted job) (Answered answer) (Value later) → Spent most due ran r n → AnswersJob job answer m.0 n.0
+owned_answer {most} o slots m l r n early due before ran t kept later job answer enough won none same listed more at related spent =
     let f = found rooms Means o slots m l t kept won in
     let is : ran ≡ (Posted job, Answered answer) ∷ [] = listed ∙ ap (λ xs. xs ++ (Posted job, Answered answer) ∷ []) none.0 in
-    let one : RanOne m n (Posted job) (Answered answer) = ran_one 3 due m l n ran (Posted job) (Answered answer) is (omega (arith, more, none.1)) enough (f.2, f.3, f.4, f.5, f.6) (subst (λ (x : SeatState LedgerParcel). Spent 3 due ran x n) same spent) in
+    let one : RanOne m n (Posted job) (Answered answer) = ran_one most due m l n ran (Posted job) (Answered answer) is (omega (arith, more, none.1)) enough (f.2, f.3, f.4, f.5, f.6) (subst (λ (x : SeatState LedgerParcel). Spent most due ran x n) same spent) in
     record {
       own = one.5;
       rises = λ p far. own_below rooms Means o m.0.own m.0.quota kept f.0 p (omega (arith, far, at));

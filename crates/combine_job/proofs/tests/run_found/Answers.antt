@@ -25,19 +25,19 @@ run_posted-requires-clause-taken g c = let d = c.requires.found in let m0 = c.ar
     let is : d.now ≡ Value c.into_kept-kept.result = sym (inside c.unwrap.result d.now (sym c.unwrap.ensures ∙ v.0)) ∙ c.into_kept-kept.ensures in
     let slots : ℕ = c.args.chain.now.table.shared.table_id.slots in
     subst (λ (x : ℕ × List _). MayRun g.V.Room.rooms g.J.Job.means g.J.Job.is_ready slots x.0 x.1 c.args.turn c.args.link c.into_kept-kept.result c.move_slot-value.new.pass.seat.me) (λ i. (sym c.new-none.ensures.1 i, sym c.new-none.ensures.0 i))
-    (may_run g.V.Room.rooms g.J.Job.means g.J.Job.is_ready c.args.chain.now.table.shared.key slots 0 [] c.args.turn c.args.link c.into_kept-kept.result m0 c.move_slot-value.new.pass.seat.me d (omega (arith, c.args.chain.now.sized.1, c.args.chain.now.sized.3)) (omega (arith, c.args.pass.now.low, c.args.pass.now.same.0, c.requires.own, c.args.chain.now.sized.1, c.args.chain.now.sized.3)) is v.1).0
+    (may_run g.V.Room.rooms g.J.Job.means g.J.Job.is_ready c.args.chain.now.table.shared.key slots 0 [] c.args.turn c.args.link c.into_kept-kept.result m0 c.move_slot-value.new.pass.seat.me d (omega (arith, c.args.chain.now.sized.1, c.args.chain.now.sized.3)) (omega (arith, c.args.pass.now.low, c.args.pass.now.same.0, ap (λ z. z.slots) c.requires.own, c.args.chain.now.sized.1, c.args.chain.now.sized.3)) is v.1).0
 
 pub run_posted-requires-clause-room : goal.run_posted-requires-clause-room
 run_posted-requires-clause-room g c = let d = c.requires.found in let m0 = c.args.pass.now.seat.me in
     let v = front_moved d.notes.mine (c.args.turn.first - 2) d.own m0.0 d.mine d.apart (Some d.now) d.answer (Some d.job) None c.move_slot-value.result m0 c.move_slot-value.new.pass.seat.me (ap (λ z. (m0.0, z)) d.hand) c.move_slot-value.ensures.moved in
     let is : d.now ≡ Value c.into_kept-kept.result = sym (inside c.unwrap.result d.now (sym c.unwrap.ensures ∙ v.0)) ∙ c.into_kept-kept.ensures in
-    (may_run g.V.Room.rooms g.J.Job.means g.J.Job.is_ready c.args.chain.now.table.shared.key c.args.chain.now.table.shared.table_id.slots 0 [] c.args.turn c.args.link c.into_kept-kept.result m0 c.move_slot-value.new.pass.seat.me d (omega (arith, c.args.chain.now.sized.1, c.args.chain.now.sized.3)) (omega (arith, c.args.pass.now.low, c.args.pass.now.same.0, c.requires.own, c.args.chain.now.sized.1, c.args.chain.now.sized.3)) is v.1).1
+    (may_run g.V.Room.rooms g.J.Job.means g.J.Job.is_ready c.args.chain.now.table.shared.key c.args.chain.now.table.shared.table_id.slots 0 [] c.args.turn c.args.link c.into_kept-kept.result m0 c.move_slot-value.new.pass.seat.me d (omega (arith, c.args.chain.now.sized.1, c.args.chain.now.sized.3)) (omega (arith, c.args.pass.now.low, c.args.pass.now.same.0, ap (λ z. z.slots) c.requires.own, c.args.chain.now.sized.1, c.args.chain.now.sized.3)) is v.1).1
 
 pub run_posted-requires-clause-count : goal.run_posted-requires-clause-count
 run_posted-requires-clause-count g c = let d = c.requires.found in let m0 = c.args.pass.now.seat.me in
     let v = front_moved d.notes.mine (c.args.turn.first - 2) d.own m0.0 d.mine d.apart (Some d.now) d.answer (Some d.job) None c.move_slot-value.result m0 c.move_slot-value.new.pass.seat.me (ap (λ z. (m0.0, z)) d.hand) c.move_slot-value.ensures.moved in
     let is : d.now ≡ Value c.into_kept-kept.result = sym (inside c.unwrap.result d.now (sym c.unwrap.ensures ∙ v.0)) ∙ c.into_kept-kept.ensures in
-    (may_run g.V.Room.rooms g.J.Job.means g.J.Job.is_ready c.args.chain.now.table.shared.key c.args.chain.now.table.shared.table_id.slots 0 [] c.args.turn c.args.link c.into_kept-kept.result m0 c.move_slot-value.new.pass.seat.me d (omega (arith, c.args.chain.now.sized.1, c.args.chain.now.sized.3)) (omega (arith, c.args.pass.now.low, c.args.pass.now.same.0, c.requires.own, c.args.chain.now.sized.1, c.args.chain.now.sized.3)) is v.1).2
+    (may_run g.V.Room.rooms g.J.Job.means g.J.Job.is_ready c.args.chain.now.table.shared.key c.args.chain.now.table.shared.table_id.slots 0 [] c.args.turn c.args.link c.into_kept-kept.result m0 c.move_slot-value.new.pass.seat.me d (omega (arith, c.args.chain.now.sized.1, c.args.chain.now.sized.3)) (omega (arith, c.args.pass.now.low, c.args.pass.now.same.0, ap (λ z. z.slots) c.requires.own, c.args.chain.now.sized.1, c.args.chain.now.sized.3)) is v.1).2
 
 pub returns-clause-ran : goal.returns-clause-ran
 returns-clause-ran g c = has_value g.V.Room.rooms g.J.Job.means _ _ _ c.args.turn c.args.link c.into_kept-kept.result c.move_slot-value.new.pass.seat.me c.run_posted.new.pass.seat.me _ _ c.run_posted.ensures.ran

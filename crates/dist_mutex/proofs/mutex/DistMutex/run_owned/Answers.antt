@@ -1,4 +1,4 @@
-use Rattle.std.proofs.Common.{◌+◌, arith, sym, subst}
+use Rattle.std.proofs.Common.{arith, sym, subst}
 use Rattle.dist_mutex.specs.Owners.{Owning}
 use Rattle.dist_mutex.proofs.Finds.{owns_more}
 use Rattle.dist_mutex.proofs.mutex.DistMutex.run_owned.Goals as goal

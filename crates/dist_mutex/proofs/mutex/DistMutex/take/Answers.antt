@@ -1,4 +1,4 @@
-use Rattle.std.proofs.Common.{[], length, Some, refl, sym, ap, ◌∙◌, inl, arith}
+use Rattle.std.proofs.Common.{[], length, Some, sym, ap, ◌∙◌, arith}
 use Rattle.dist_mutex.proofs.Finds.{stands, locks, some_inside}
 use Rattle.combine_job.proofs.Posting.{stands_front, is_there}
 use Rattle.dist_mutex.proofs.mutex.DistMutex.take.Goals as goal
@@ -11,7 +11,7 @@ unwrap-requires g c = let w = c.requires.won.2 in is_there _ w.0 (c.move_slot-pa
 
 pub into_kept-kept-requires : goal.into_kept-kept-requires
 into_kept-kept-requires g c =
-    let w = c.requires.won.2 in let s = stands g.V.Room.rooms g.J.Job.means g.J.Job.is_ready c.args.self.now.chain.table.shared.key w.0 _ _ w.3 in
+    let w = c.requires.won.2 in let s = stands g.V.Room.rooms g.J.Job.means g.J.Job.is_ready c.args.self.now.chain.table.shared.key w.0 _ _ _ w.3 in
     (s.0, some_inside _ _ (sym c.unwrap.ensures ∙ (c.move_slot-parcel.ensures.moved [] [] (Some w.0) (ap (λ z. z.1) w.1) (stands_front _ [] (omega arith))).0) ∙ s.1)
 
 pub returns-clause-runs : goal.returns-clause-runs

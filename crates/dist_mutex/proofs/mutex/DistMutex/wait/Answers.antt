@@ -12,7 +12,7 @@ poll-requires-clause-behind g c = let i = c.loop.invariant in let b = polled_beh
 pub loop-preserved : goal.loop-preserved
 loop-preserved g c =
     let i = c.loop.invariant in let o = c.poll.ensures.own in let b = polled_behind _ _ i.6.0 c.args.pass.now.pass.seat.me c.loop.pass.pass.seat.me i.5 c.requires.behind i.6.1 in let a = c.in-Still.ensures.answer None b.0 in let k : ℕ = i.6.0 in
-    (tt, tt, o.0 ∙ i.2, o.1 ∙ i.3, i.4, o.2 ∙ i.5, (suc k, a.1 ∙ ap (λ z. stays z (entry z.0 LoadStatus (1 + 2 * z.0.number) c.in-Still.word)) i.6.1 ∙ polled-more c.args.pass.now.pass.seat.me k c.in-Still.word a.0))
+    (tt, tt, o.0 ∙ i.2, o.1 ∙ i.3, i.4, o.2 ∙ i.5, (suc k, a.1 ∙ ap (λ z. stays z (entry z.0 LoadStatus (1 + 2 * z.0.number) c.in-Still.word)) i.6.1 ∙ polled-more 1 c.args.pass.now.pass.seat.me k c.in-Still.word a.0))
 
 pub take-requires-clause-won : goal.take-requires-clause-won
 take-requires-clause-won g c =
