@@ -10,11 +10,11 @@ ghost use Rattle.query_rules.specs.Log.{IsLogOf};
 ghost use Rattle.server_run.specs.Serve.{limit, Reads, EndedAs, WritesOneHistory, WritesFront, TellsRefusal, WritesRefusal, WritesRefusalFront, Completes, Refuses};
 ghost use Rattle.query_text.specs.Refusals.{refusal_text};
 ghost use Rattle.query_text.specs.declared.refusal.Refusal.{Refusal};
-ghost use Rattle.command_line.specs.Form.{IsWithinLimits, options_in};
+ghost use Rattle.command_line.specs.Form.{IsWithinLimits, run_in as options_in};
 
 use crate::ended::Ended;
 use crate::run::run_script;
-use command_line::{Options, WordsFault, check_words};
+use command_line::{Options, WordsFault, check_run as check_words};
 use ql_base::{Clocks, Gate, ReadFault, Sink, Source, read_to_end};
 use query_text::{ParseFault, Refusal, Script, parse_script, write_log, write_refusal};
 use std::alloc::Global;
