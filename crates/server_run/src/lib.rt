@@ -29,6 +29,8 @@ pub use run::{Ran, run_callers, run_script};
 pub use serve::serve_main;
 
 #[cfg(test)]
+mod callers_tests;
+#[cfg(test)]
 mod gate_tests;
 #[cfg(test)]
 mod sink_tests;
