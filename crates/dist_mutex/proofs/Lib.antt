@@ -6,3 +6,4 @@ pub mod Faults
 pub mod Shown
 pub mod Unlocking
 pub mod Running
+pub mod Answering

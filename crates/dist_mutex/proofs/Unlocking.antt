@@ -19,7 +19,7 @@ use Rattle.dist_mutex.specs.declared.owner.Next.TheVariants as next
 use Rattle.dist_mutex.specs.Owners.{Spent}
 use Rattle.dist_mutex.specs.Unlocks.{by, loads_kind, loads_link, serves, grants, Comes, Round, Rounds, Closes, Unlocks, Went, JobWaits, EndsSoon, TookJob, NotLinked, RanRound, EndsEarly, StopsAs}
 
-all_of : {A : Type 0} (xs : List A) → xs ≡ xs ++ []
+pub all_of : {A : Type 0} (xs : List A) → xs ≡ xs ++ []
 all_of [] = refl
 all_of (x ∷ xs) = ap (λ ys. x ∷ ys) (all_of xs)
 

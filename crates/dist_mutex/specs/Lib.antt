@@ -1,5 +1,6 @@
 pub mod Owners
 pub mod Passes
+pub mod Posts
 pub mod Shows
 pub mod Tries
 pub mod TryLaws

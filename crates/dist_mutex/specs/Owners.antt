@@ -15,7 +15,6 @@ use Rattle.combine_job.specs.declared.parcel.Kept.{Kept}
 use Rattle.combine_job.specs.declared.parcel.Parcel.{Parcel}
 use Rattle.combine_job.specs.declared.parcel.Parcel.TheVariants.{Value}
 use Rattle.combine_job.specs.Parcels.{Related, EachOnce}
-use Rattle.dist_mutex.specs.Unlocks.{Unlocked}
 
 module _ {P : Type 0} where
   -- the pass is idle, and has run no job of its own since it was the owner
@@ -76,11 +75,6 @@ module _ {V J O X : Type 0} (rooms : V → ℕ) (means : V → J → Result O X 
   abbrev pub WonLock : Opening (Parcel V J O X) → ℕ → SeatState (Parcel V J O X) → SeatState (Parcel V J O X) → Turn → Kept V → Type 0
   WonLock o slots m n t kept = LockedBy o slots (readied_state false m) n (entry m.0 SwapIn 0 0) t kept
       ⊎ ((b : ℕ) × (k : ℕ) × (b ≢ 0) × LockedBy o slots (polled_state k (behind_state b m)) n (entry m.0 LoadStatus (1 + 2 * m.0.number) (t.end + 4)) t kept)
-
-  -- all steps of a pass that took the lock, ran one job and gave the lock up: those of the lock, by which it found the first value, and those of the unlock
-  abbrev pub Combined : ℕ → Opening (Parcel V J O X) → ℕ → SeatState (Parcel V J O X) → SeatState (Parcel V J O X) → Parcel V J O X → Parcel V J O X → Kept V → Kept V → Type 0
-  Combined limit o slots m n job answer found left = (l : SeatState (Parcel V J O X)) × (t : Turn) × WonLock o slots m l t found × Related rooms means (Value found) job answer (Value left)
-      × ((made : List Entry) × (n.0.steps ≡ l.0.steps ++ made) × Unlocked l.0.number limit t made)
 
   -- the lock ends with a value that the whole history made, and these jobs are exactly those of the history, each with its answer
   abbrev pub Ends : Opening (Parcel V J O X) → List (Parcel V J O X × Parcel V J O X) → Option (Kept V) → Type 0
