@@ -1,0 +1,174 @@
+-- One want more, and one hold given back.
+use Rattle.std.specs.Prelude.{◌≡◌, ◌≢◌, ◌⊎◌, ℕ, zero, suc, ◌+◌, ◌<◌, ◌≤◌, List, [], ◌∷◌, length, slice_index_or, slice_set, Option, Some, None, IfSome, MatchOption}
+use Rattle.std.proofs.Common.{refl, sym, ap, ◌∙◌, subst, inl, inr, ⊎_elim, arith, get_or-set_same, get_or-set_other}
+use Rattle.std.proofs.lemmas.Bool.{cases_lt, cases_eq}
+use mathlib.Core.Logic.{dite}
+use native.Mathlib.Decide.{ℕ_discrete}
+use Rattle.lock_model.specs.Locks.{Has}
+use Rattle.hall.specs.declared.cargo.CargoRule.{Ghosts}
+use Rattle.hall.specs.declared.view.Shape.{Shape}
+use Rattle.hall.specs.declared.view.Standing.TheVariants as stand
+use Rattle.hall.specs.declared.view.View.{View}
+use Rattle.hall.specs.Calls.{ElsewhereSame}
+use Rattle.hall.specs.Treading.{Treads, treads_as, treads_none, treads_then}
+use Rattle.hall.specs.Views.{standing}
+use Rattle.lock_model.specs.declared.model.Mode.TheVariants as modes
+use Rattle.acquire_many.specs.Guards.{Fit}
+use Rattle.acquire_many.specs.MetLaws.{returns_leave, returns_treads}
+use Rattle.acquire_many.specs.Met.{AtFirst, IfThere, Learns, HeldBelow, InTurn, IsFor, IsForAny, Returns, standing_for}
+use Rattle.acquire_many.specs.Took.{GaveFirst, IsForHeld, TookAll, TookBelow}
+use Rattle.acquire_many.specs.Wants.{AllBelow, AreApart, InOrderBelow, IsLeast, Want, lock_at, want_at}
+
+-- a want below the next bound is the one that was just met, or was met before
+below_more : (wants : List Want) (from k j : ℕ) → AreApart wants → IsLeast wants from k → j < length wants → lock_at wants j < lock_at wants k + 1 → (j ≡ k) ⊎ (lock_at wants j < from)
+below_more wants from k j apart least near low = ⊎_elim inr (λ high.
+    let same : lock_at wants j ≡ lock_at wants k = omega (arith, low, least.2 j near high) in
+    ⊎_elim (λ lt. absurd (apart k least.0 (j, lt, same))) (λ ge. ⊎_elim inl (λ ne. absurd (apart j near (k, omega (arith, ge, ne), sym same))) (cases_eq j k)) (cases_lt j k)) (cases_lt (lock_at wants j) from)
+
+module _ {C P : Type 0} (g : Ghosts C P) (meets : View P → Want → View P → Type 0) (wants : List Want) (v : View P) where
+  -- before the first want
+  pub took_none : (holds : List (Option Want)) → ((k : ℕ) → slice_index_or holds k None ≡ None) → TookBelow g meets wants 0 v holds v
+  took_none holds none = record {
+    order = [];
+    sorted = record { here = λ k near low. absurd (omega (arith, low)); there = λ k has. absurd has; falls = tt };
+    met = refl;
+    held = record { held = λ k near low. absurd (omega (arith, low)); others = λ k high. none k };
+    stands = λ k near low. absurd (omega (arith, low));
+    elsewhere = λ lock aside. refl;
+    trail = treads_none (IsForAny wants) v v refl refl;
+    settled = λ k near low. absurd (omega (arith, low));
+    others = λ lock aside settled. settled;
+  }
+
+  module _ (from k : ℕ) (holds : List (Option Want)) (u w : View P) (apart : AreApart wants) (least : IsLeast wants from k) (t : TookBelow g meets wants from v holds u) where
+    abbrev lock : ℕ
+    lock = lock_at wants k
+
+    -- one want more
+    pub took_more : k < length holds → meets u (want_at wants k) w → standing w lock ≡ standing_for (want_at wants k).1 → ElsewhereSame u w lock → Treads (IsFor (want_at wants k)) u w → g.settled lock w.part → ((other : ℕ) → other ≢ lock → g.settled other u.part → g.settled other w.part)
+        → TookBelow g meets wants (lock + 1) v (slice_set holds k (Some (want_at wants k))) w
+    took_more room met stands elsewhere trail settled others = record {
+      order = k ∷ t.order;
+      sorted = record {
+        here = λ j near low. ⊎_elim (λ e. inl e) (λ older. inr (t.sorted.here j near older)) (below_more wants from k j apart least near low);
+        there = λ j has. ⊎_elim (λ e. (subst (λ i. i < length wants) (sym e) least.0, subst (λ i. lock_at wants i < lock + 1) (sym e) (omega arith))) (λ older. let is = t.sorted.there j older in (is.0, omega (arith, is.1, least.1))) has;
+        falls = (λ j has. omega (arith, (t.sorted.there j has).1, least.1), t.sorted.falls);
+      };
+      met = (u, t.met, met);
+      held = record {
+        held = λ j near low. ⊎_elim (λ e. subst (λ i. slice_index_or (slice_set holds k (Some (want_at wants k))) i None ≡ Some (want_at wants i)) (sym e) (get_or-set_same holds k (Some (want_at wants k)) None room))
+            (λ older. get_or-set_other holds k j (Some (want_at wants k)) None (differs j older) ∙ t.held.held j near older) (below_more wants from k j apart least near low);
+        others = λ j high. get_or-set_other holds k j (Some (want_at wants k)) None (λ e. no_low (subst (λ i. lock + 1 ≤ lock_at wants i) e (high (subst (λ i. i < length wants) (sym e) least.0)))) ∙ t.held.others j (λ near. omega (arith, high near, least.1));
+      };
+      stands = λ j near low. ⊎_elim (λ e. subst (λ i. standing w (lock_at wants i) ≡ standing_for (want_at wants i).1) (sym e) stands) (λ older. elsewhere (lock_at wants j) (λ e. lower j older e) ∙ t.stands j near older) (below_more wants from k j apart least near low);
+      elsewhere = λ other aside. elsewhere other (λ e. aside k least.0 (omega arith) (sym e)) ∙ t.elsewhere other (λ j near low. aside j near (omega (arith, low, least.1)));
+      trail = treads_then (IsForAny wants) v u w t.trail (treads_as (IsFor (want_at wants k)) (IsForAny wants) u w (λ m is. (k, least.0, is)) trail);
+      settled = λ j near low. ⊎_elim (λ e. subst (λ i. g.settled (lock_at wants i) w.part) (sym e) settled) (λ older. others (lock_at wants j) (λ e. lower j older e) (t.settled j near older)) (below_more wants from k j apart least near low);
+      others = λ other aside was. others other (λ e. aside k least.0 (sym e)) (t.others other aside was);
+    }
+      where
+        lower : (j : ℕ) → lock_at wants j < from → lock_at wants j ≡ lock → ⊥
+        lower j older e = omega (arith, older, e, least.1)
+
+        differs : (j : ℕ) → lock_at wants j < from → j ≢ k
+        differs j older e = lower j older (ap (lock_at wants) e)
+
+        no_low : lock + 1 ≤ lock → ⊥
+        no_low h = omega (arith, h)
+
+    -- and so by its own step
+    pub took_by : ((x y : View P) (want : Want) → standing x want.0 ≡ stand.Away → meets x want y → Treads (IsFor want) x y) → ((x y : View P) (want : Want) → meets x want y → Learns g want.0 x y)
+        → k < length holds → standing v lock ≡ stand.Away → meets u (want_at wants k) w → standing w lock ≡ standing_for (want_at wants k).1 → ElsewhereSame u w lock → TookBelow g meets wants (lock + 1) v (slice_set holds k (Some (want_at wants k))) w
+    took_by treads learns room away met stands elsewhere =
+        let l = learns u w (want_at wants k) met in
+        took_more room met stands elsewhere (treads u w (want_at wants k) (still_away ∙ away) met) (g.gains_settles lock l.0 u.part w.part l.1) (λ other ne was. g.gains_leave lock other l.0 u.part w.part ne l.1 was)
+      where
+        still_away : standing u lock ≡ standing v lock
+        still_away = t.elsewhere lock (λ j near low e. omega (arith, low, e, least.1))
+
+  -- where no want is left
+  pub took_all : (from : ℕ) (holds : List (Option Want)) (w : View P) → AllBelow wants from → TookBelow g meets wants from v holds w → TookAll g meets wants v holds w
+  took_all from holds w all t = record {
+    order = t.order;
+    sorted = record { here = λ k near. t.sorted.here k near (all k near); there = λ k has. (t.sorted.there k has).0; falls = t.sorted.falls };
+    met = t.met;
+    held = record { held = λ k near. t.held.held k near (all k near); none = λ k far. t.held.others k (λ near. absurd (omega (arith, near, far))) };
+    stands = λ k near. t.stands k near (all k near);
+    elsewhere = λ lock aside. t.elsewhere lock (λ k near low. aside k near);
+    trail = t.trail;
+    settled = λ k near. t.settled k near (all k near);
+    others = t.others;
+  }
+
+some_same : (a b : Want) → Some a ≡ Some b → a ≡ b
+some_same a b e = cc
+
+no_some : (x : Want) → None ≡ Some x → ⊥
+no_some x e = absurd (cc)
+
+module _ {C P : Type 0} (g : Ghosts C P) (meets : View P → Want → View P → Type 0) (wants : List Want) (shape : Shape) (v w : View P) (holds : List (Option Want)) (t : TookAll g meets wants v holds w) where
+  -- each hold is of a want
+  of_want : (k : ℕ) (x : Want) → slice_index_or holds k None ≡ Some x → (k < length wants) × (want_at wants k ≡ x)
+  of_want k x at = ⊎_elim (λ near. (near, some_same (want_at wants k) x (sym (t.held.held k near) ∙ at))) (λ far. absurd (no_some x (sym (t.held.none k far) ∙ at))) (cases_lt k (length wants))
+
+  -- the guards fit
+  pub fit_all : ((k : ℕ) → k < length wants → lock_at wants k < shape.locks) → AreApart wants → Fit shape w holds
+  fit_all locks apart = record {
+    each = λ k x at. let is = of_want k x at in subst (λ (y : Want). (y.0 < shape.locks) × (standing w y.0 ≡ standing_for y.1)) is.1 (locks k is.0, t.stands k is.0);
+    apart = λ j k x y at_j at_k ne same.
+        let a = of_want j x at_j in let b = of_want k y at_k in let e : lock_at wants j ≡ lock_at wants k = ap (λ (z : Want). z.0) a.1 ∙ same ∙ sym (ap (λ (z : Want). z.0) b.1) in
+        ⊎_elim (λ lt. absurd (apart k b.0 (j, lt, e))) (λ ge. absurd (apart j a.0 (k, omega (arith, ge, ne), sym e))) (cases_lt j k);
+  }
+
+module _ {C P : Type 0} (g : Ghosts C P) (holds : List (Option Want)) (v : View P) where
+  -- none was given back yet
+  pub gave_none : GaveFirst g holds v 0 v
+  gave_none = record { returned = refl; away = λ k x low. absurd (omega (arith, low)); elsewhere = λ lock aside. refl; trail = treads_none (IsForHeld g holds) v v refl refl; others = λ lock aside was. was }
+
+  at_more : (n : ℕ) (u w : View P) → AtFirst (Returns g) holds v n u → IfThere (Returns g) u (slice_index_or holds n None) w → AtFirst (Returns g) holds v (n + 1) w
+  at_more n u w before last =
+      let more : AtFirst (Returns g) holds v (suc n) w = (u, before, last) in let e : suc n ≡ n + 1 = omega arith in
+      subst (λ (i : ℕ). AtFirst (Returns g) holds v i w) e more
+
+  -- at the next position there is none
+  pub gave_skip : (n : ℕ) (u : View P) → slice_index_or holds n None ≡ None → GaveFirst g holds v n u → GaveFirst g holds v (n + 1) u
+  gave_skip n u none t = record {
+    returned = at_more n u u t.returned (subst (λ (o : Option Want). IfThere (Returns g) u o u) (sym none) refl);
+    away = λ k x low at. ⊎_elim (λ lt. t.away k x lt at) (λ ge. absurd (no_hold x (subst (λ i. slice_index_or holds i None ≡ Some x) (omega (arith, low, ge)) at))) (cases_lt k n);
+    elsewhere = λ lock aside. t.elsewhere lock (λ k x low at. aside k x (omega (arith, low)) at);
+    trail = t.trail;
+    others = λ lock aside was. t.others lock (λ k x low at. aside k x (omega (arith, low)) at) was;
+  }
+    where
+      no_hold : (x : Want) → slice_index_or holds n None ≡ Some x → ⊥
+      no_hold x at = absurd (cc)
+
+  -- the next one was given back
+  pub gave_more : (n : ℕ) (x : Want) (shape : Shape) (u w : View P) → Fit shape v holds → slice_index_or holds n None ≡ Some x → GaveFirst g holds v n u → Returns g u x w → standing w x.0 ≡ stand.Away → ElsewhereSame u w x.0 → Treads (IsFor x) u w → ((other : ℕ) → other ≢ x.0 → g.settled other u.part → g.settled other w.part) → GaveFirst g holds v (n + 1) w
+  gave_more n x shape u w fit here t back away elsewhere trail others = record {
+    returned = at_more n u w t.returned (subst (λ (o : Option Want). IfThere (Returns g) u o w) (sym here) back);
+    away = λ k y low at. ⊎_elim
+        (λ lt. elsewhere y.0 (fit.apart k n y x at here (λ e. absurd (omega (arith, lt, e)))) ∙ t.away k y lt at)
+        (λ ge. let e : k ≡ n = omega (arith, low, ge) in subst (λ (z : Want). standing w z.0 ≡ stand.Away) (same_hold y (subst (λ i. slice_index_or holds i None ≡ Some y) e at)) away)
+        (cases_lt k n);
+    elsewhere = λ lock aside. elsewhere lock (λ e. aside n x (omega arith) here (sym e)) ∙ t.elsewhere lock (λ k y low at. aside k y (omega (arith, low)) at);
+    trail = treads_then (IsForHeld g holds) v u w t.trail (treads_as (IsFor x) (IsForHeld g holds) u w (λ m is. (n, x, here, is)) trail);
+    others = λ lock aside was. others lock (λ e. aside n x (omega arith) here (sym e)) (t.others lock (λ k y low at. aside k y (omega (arith, low)) at) was);
+  }
+    where
+      same_hold : (y : Want) → slice_index_or holds n None ≡ Some y → x ≡ y
+      same_hold y at = some_same x y (sym here ∙ at)
+
+  -- those that weren't given back yet are held as before
+  pub still_held : (n : ℕ) (shape : Shape) (u : View P) → Fit shape v holds → ((k : ℕ) (x : Want) → slice_index_or holds k None ≡ Some x → x.1 ≡ modes.Exclusive → g.settled x.0 v.part) → GaveFirst g holds v n u
+      → (o : Option Want) → slice_index_or holds n None ≡ o → IfSome o (λ x. (x.0 < shape.locks) × (standing u x.0 ≡ standing_for x.1) × (x.1 ≡ modes.Exclusive → g.settled x.0 u.part))
+  still_held n shape u fit settled t None at = tt
+  still_held n shape u fit settled t (Some x) at =
+      let others : (k : ℕ) (y : Want) → k < n → slice_index_or holds k None ≡ Some y → y.0 ≢ x.0 = λ k y low there. fit.apart k n y x there at (λ e. absurd (omega (arith, low, e))) in
+      ((fit.each n x at).0, t.elsewhere x.0 others ∙ (fit.each n x at).1, λ exclusive. t.others x.0 others (settled n x at exclusive))
+
+  -- the next position
+  pub gave_at : (n : ℕ) (shape : Shape) (u w : View P) → Fit shape v holds → GaveFirst g holds v n u → (o : Option Want) → slice_index_or holds n None ≡ o → IfSome o (λ x. (x.0 < shape.locks) × (standing u x.0 ≡ standing_for x.1) × (x.1 ≡ modes.Exclusive → g.settled x.0 u.part))
+      → MatchOption o (w ≡ u) (λ x. Returns g u x w × (standing w x.0 ≡ stand.Away) × ElsewhereSame u w x.0) → GaveFirst g holds v (n + 1) w
+  gave_at n shape u w fit t None at held same = subst (λ (z : View P). GaveFirst g holds v (n + 1) z) (sym same) (gave_skip n u at t)
+  gave_at n shape u w fit t (Some x) at held s = gave_more n x shape u w fit at t s.0 s.1 s.2 (returns_treads g u w x held.1 s.0) (returns_leave g u w x held.1 s.0)

@@ -1,0 +1,5 @@
+pub mod Guards
+pub mod Met
+pub mod MetLaws
+pub mod Took
+pub mod Wants

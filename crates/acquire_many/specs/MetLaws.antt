@@ -1,0 +1,94 @@
+-- Laws of wants that were met: what the pass learnt, its footprints, and what its part says of other locks.
+use Rattle.std.specs.Prelude.{◌≡◌, ◌≢◌, ℕ, zero, suc, ◌+◌, ◌<◌, Bool, true, false, List, [], ◌∷◌, length, slice_index_or, Option, Some, None}
+use Rattle.std.proofs.Common.{refl, sym, ap, ◌∙◌, subst, inl, inr, ⊎_elim}
+use Rattle.lock_model.specs.declared.model.Mode.{Mode}
+use Rattle.lock_model.specs.declared.model.Mode.TheVariants as modes
+use Rattle.lock_model.specs.Locks.{Has}
+use Rattle.hall.specs.declared.cargo.CargoRule.{Ghosts}
+use Rattle.hall.specs.declared.guards.TryFault.{TryFault}
+use Rattle.hall.specs.declared.view.Footprint.{Footprint}
+use Rattle.hall.specs.declared.view.Kind.TheVariants as kinds
+use Rattle.hall.specs.declared.view.Standing.{Standing}
+use Rattle.hall.specs.declared.view.Standing.TheVariants as stand
+use Rattle.hall.specs.Plays.{lowered_part}
+use Rattle.hall.specs.declared.view.View.{View}
+use Rattle.hall.specs.Treading.{IsAt, IsBetween, IsWeakAt, Treads, treads_as, treads_none, treads_step, treads_then}
+use Rattle.hall.specs.Views.{after_look, standing}
+use Rattle.apply_deferred.specs.SweepLaws.{sweep_goes}
+use Rattle.shared_mutex.specs.Acquiring.{TakesExclusive}
+use Rattle.shared_mutex.specs.Tries.{WritesAtLast}
+use Rattle.shared_mutex.specs.TrailLaws.{enters_treads, gives_back_treads, looked_at, releases_treads, takes_exclusive_treads, takes_shared_treads, writes_treads}
+use Rattle.shared_mutex.specs.TryLaws.{looked_once}
+use Rattle.upgrade_mode.specs.Holding.{EntersUpgrade}
+use Rattle.acquire_many.specs.Met.{IsFor, Learns, Meets, Returns, Takes, standing_for}
+use Rattle.acquire_many.specs.Wants.{Want}
+
+no_both : (b : Bool) → b ≡ false → b ≡ true → ⊥
+no_both b f t = absurd (cc)
+
+module _ {P : Type 0} where
+  weak_for : (lock : ℕ) (v w : View P) → Treads (IsWeakAt lock) v w → Treads (IsFor (lock, modes.Shared)) v w
+  weak_for lock v w t = treads_as (IsWeakAt lock) (IsFor (lock, modes.Shared)) v w (λ m p. (p.0, λ strong. absurd (no_both m.strong p.1 strong))) t
+
+  at_upgrade : (lock : ℕ) (v w : View P) → Treads (IsAt lock) v w → Treads (IsFor (lock, modes.Upgrade)) v w
+  at_upgrade lock v w t = treads_as (IsAt lock) (IsFor (lock, modes.Upgrade)) v w (λ m p. (p, λ strong e. absurd (cc))) t
+
+  at_exclusive : (lock : ℕ) (v w : View P) → Treads (IsAt lock) v w → Treads (IsFor (lock, modes.Exclusive)) v w
+  at_exclusive lock v w t = treads_as (IsAt lock) (IsFor (lock, modes.Exclusive)) v w (λ m p. (p, λ strong e. absurd (cc))) t
+
+module _ {C P : Type 0} (g : Ghosts C P) where
+  upgrade_treads : (v w : View P) (lock : ℕ) → EntersUpgrade g v lock w → Treads (IsAt lock) v w
+  upgrade_treads v w lock t =
+      let u = after_look v kinds.Load lock t.0 in let got = t.2.0 in
+      treads_then (IsAt lock) v u w (looked_at v u lock (looked_once v u kinds.Load lock t.0 refl refl))
+      (treads_as (IsBetween lock (standing u lock) stand.Upgrade) (IsAt lock) u w (λ m p. p.0) (treads_step u w kinds.UpgradeIn lock t.0 true stand.Upgrade got.1 got.3))
+
+  -- footprints of a want that was met
+  pub meets_treads : (v w : View P) (want : Want) → standing v want.0 ≡ stand.Away → Meets g v want w → Treads (IsFor want) v w
+  meets_treads v w (lock, modes.Shared) away t = weak_for lock v w (enters_treads g v w lock t.0 away t.1)
+  meets_treads v w (lock, modes.Upgrade) away t = at_upgrade lock v w (treads_then (IsAt lock) v t.1.0 w (looked_at v t.1.0 lock t.1.2) (upgrade_treads t.1.0 w lock t.1.3))
+  meets_treads v w (lock, modes.Exclusive) away t = at_exclusive lock v w (writes_treads g v w lock t.0 t.1 t.2)
+
+  pub takes_treads : (v w : View P) (want : Want) → standing v want.0 ≡ stand.Away → Takes g v want w → Treads (IsFor want) v w
+  takes_treads v w (lock, modes.Shared) away t = weak_for lock v w (takes_shared_treads g v w lock away t)
+  takes_treads v w (lock, modes.Upgrade) away t = at_upgrade lock v w (upgrade_treads v w lock t)
+  takes_treads v w (lock, modes.Exclusive) away t = at_exclusive lock v w (takes_exclusive_treads g v w lock t)
+
+  -- what the pass learnt by it
+  learnt_after : (v u w : View P) (lock : ℕ) → u.part ≡ v.part → Learns g lock u w → Learns g lock v w
+  learnt_after v u w lock same t = (t.0, subst (λ (p : P). g.gains lock t.0 p w.part) same t.1)
+
+  learnt_by : (u w : View P) (lock : ℕ) (ws : List ℕ) (part : P) → g.gains lock ws u.part part → w.part ≡ part → Learns g lock u w
+  learnt_by u w lock ws part gain is = (ws, subst (λ (p : P). g.gains lock ws u.part p) (sym is) gain)
+
+  pub takes_learns : (v w : View P) (want : Want) → Takes g v want w → Learns g want.0 v w
+  takes_learns v w (lock, modes.Shared) t = let got = t.2.0 in learnt_by v w lock got.0 got.1 got.2 (ap (λ (z : View P). z.part) got.3)
+  takes_learns v w (lock, modes.Upgrade) t = let got = t.2.0 in learnt_by v w lock got.0 got.1 got.2 (ap (λ (z : View P). z.part) got.3)
+  takes_learns v w (lock, modes.Exclusive) t =
+      let u = t.0 in let z = t.2 in let got = t.5.0 in
+      learnt_after v z w lock ((sweep_goes g lock v.shape.slots t.3 u z t.4).part ∙ ap (λ (x : View P). x.part) t.1.2.0) (learnt_by z w lock got.0 got.1 got.2 (ap (λ (x : View P). x.part) got.3))
+
+  written_learns : (v w : View P) (lock : ℕ) (faults misses : List TryFault) → WritesAtLast g v lock faults misses w → Learns g lock v w
+  written_learns v w lock faults misses t =
+      let a = t.0 in let began = t.1 in let u = began.0 in let won = began.3 in let b = won.0 in let ended = t.2 in let z = ended.0 in let got = ended.3.0 in
+      let swept = (sweep_goes g lock v.shape.slots won.2.0 b a won.2.1).part in
+      learnt_after v z w lock (ended.2.part ∙ swept ∙ ap (λ (x : View P). x.part) won.1.2.0 ∙ began.2.part) (learnt_by z w lock got.0 got.1 got.2 (ap (λ (x : View P). x.part) got.3))
+
+  pub meets_learns : (v w : View P) (want : Want) → Meets g v want w → Learns g want.0 v w
+  meets_learns v w (lock, modes.Shared) t = learnt_after v t.1.0 w lock t.1.2.part (takes_learns t.1.0 w (lock, modes.Shared) t.1.3)
+  meets_learns v w (lock, modes.Upgrade) t = learnt_after v t.1.0 w lock t.1.2.part (takes_learns t.1.0 w (lock, modes.Upgrade) t.1.3)
+  meets_learns v w (lock, modes.Exclusive) t = written_learns v w lock t.0 t.1 t.2
+
+  -- a hold that was given back: its footprints, and what the part says of other locks
+  pub returns_treads : (v w : View P) (hold : Want) → standing v hold.0 ≡ standing_for hold.1 → Returns g v hold w → Treads (IsFor hold) v w
+  returns_treads v w (lock, modes.Shared) held t = weak_for lock v w (gives_back_treads g v w lock t.0 held t.1)
+  returns_treads v w (lock, modes.Upgrade) held t = at_upgrade lock v w (treads_as (IsBetween lock (standing v lock) stand.Away) (IsAt lock) v w (λ m p. p.0) (treads_step v w kinds.UpgradeOut lock t.0 true stand.Away (g.lowered lock None v.part) t.1.0))
+  returns_treads v w (lock, modes.Exclusive) held t = at_exclusive lock v w (releases_treads g v w lock t)
+
+  left_so : (v w : View P) (lock other : ℕ) → other ≢ lock → w.part ≡ g.lowered lock None v.part → g.settled other v.part → g.settled other w.part
+  left_so v w lock other ne is was = subst (λ (p : P). g.settled other p) (sym is) (g.lowered_leaves lock other None v.part ne was)
+
+  pub returns_leave : (v w : View P) (hold : Want) → standing v hold.0 ≡ standing_for hold.1 → Returns g v hold w → (other : ℕ) → other ≢ hold.0 → g.settled other v.part → g.settled other w.part
+  returns_leave v w (lock, modes.Shared) held t other ne was = left_so v w lock other ne (ap (λ (z : View P). z.part) t.1.0 ∙ ap (λ (x : Standing). lowered_part g x lock v.part) held) was
+  returns_leave v w (lock, modes.Upgrade) held t other ne was = left_so v w lock other ne (ap (λ (z : View P). z.part) t.1.0) was
+  returns_leave v w (lock, modes.Exclusive) held t other ne was = left_so v w lock other ne (ap (λ (z : View P). z.part) t.1) was

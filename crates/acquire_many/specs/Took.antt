@@ -1,0 +1,53 @@
+-- What a pass has after wants were met.
+use Rattle.std.specs.Prelude.{◌≡◌, ◌≢◌, ℕ, ◌<◌, List, length, slice_index_or, Option, Some, None}
+use Rattle.lock_model.specs.declared.model.Mode.TheVariants as modes
+use Rattle.hall.specs.declared.cargo.CargoRule.{Ghosts}
+use Rattle.hall.specs.declared.view.Footprint.{Footprint}
+use Rattle.hall.specs.declared.view.Standing.TheVariants as stand
+use Rattle.hall.specs.declared.view.View.{View}
+use Rattle.hall.specs.Treading.{Treads}
+use Rattle.hall.specs.Views.{standing}
+use Rattle.acquire_many.specs.Met.{AtFirst, HeldAll, HeldBelow, InTurn, IsFor, IsForAny, Returns, standing_for}
+use Rattle.acquire_many.specs.Wants.{InOrder, InOrderBelow, Want, lock_at, want_at}
+
+module _ {C P : Type 0} (g : Ghosts C P) (meets : View P → Want → View P → Type 0) (wants : List Want) where
+  -- the wants with locks below `from` were met, those with lower locks first
+  pub record TookBelow (from : ℕ) (v : View P) (holds : List (Option Want)) (w : View P) : Type 0 where
+    pub order : List ℕ
+    pub sorted : InOrderBelow wants from order
+    pub met : InTurn meets wants v order w
+    pub held : HeldBelow wants from holds
+    pub stands : (k : ℕ) → k < length wants → lock_at wants k < from → standing w (lock_at wants k) ≡ standing_for (want_at wants k).1
+    pub elsewhere : (lock : ℕ) → ((k : ℕ) → k < length wants → lock_at wants k < from → lock_at wants k ≢ lock) → standing w lock ≡ standing v lock
+    pub trail : Treads (IsForAny wants) v w
+    pub settled : (k : ℕ) → k < length wants → lock_at wants k < from → g.settled (lock_at wants k) w.part
+    pub others : (lock : ℕ) → ((k : ℕ) → k < length wants → lock_at wants k ≢ lock) → g.settled lock v.part → g.settled lock w.part
+
+  -- All wants were met, those with lower locks first. The guards stand by the positions of the wants; the pass stands at each lock as it was wanted, and elsewhere as before; its part is settled for each lock, and for the others where it was. Only for wants in stronger modes than shared are there strong footprints
+  pub record TookAll (v : View P) (holds : List (Option Want)) (w : View P) : Type 0 where
+    pub order : List ℕ
+    pub sorted : InOrder wants order
+    pub met : InTurn meets wants v order w
+    pub held : HeldAll wants holds
+    pub stands : (k : ℕ) → k < length wants → standing w (lock_at wants k) ≡ standing_for (want_at wants k).1
+    pub elsewhere : (lock : ℕ) → ((k : ℕ) → k < length wants → lock_at wants k ≢ lock) → standing w lock ≡ standing v lock
+    pub trail : Treads (IsForAny wants) v w
+    pub settled : (k : ℕ) → k < length wants → g.settled (lock_at wants k) w.part
+    pub others : (lock : ℕ) → ((k : ℕ) → k < length wants → lock_at wants k ≢ lock) → g.settled lock v.part → g.settled lock w.part
+
+module _ {C P : Type 0} (g : Ghosts C P) (holds : List (Option Want)) where
+  -- no hold is of this lock
+  abbrev pub IsAside : ℕ → Type 0
+  IsAside lock = (k : ℕ) (x : Want) → slice_index_or holds k None ≡ Some x → x.0 ≢ lock
+
+  -- a footprint for one of the holds
+  abbrev pub IsForHeld : Footprint → Type 0
+  IsForHeld m = (k : ℕ) × (x : Want) × (slice_index_or holds k None ≡ Some x) × IsFor x m
+
+  -- the holds at the first n positions were given back, in their order
+  pub record GaveFirst (v : View P) (n : ℕ) (w : View P) : Type 0 where
+    pub returned : AtFirst (Returns g) holds v n w
+    pub away : (k : ℕ) (x : Want) → k < n → slice_index_or holds k None ≡ Some x → standing w x.0 ≡ stand.Away
+    pub elsewhere : (lock : ℕ) → ((k : ℕ) (x : Want) → k < n → slice_index_or holds k None ≡ Some x → x.0 ≢ lock) → standing w lock ≡ standing v lock
+    pub trail : Treads IsForHeld v w
+    pub others : (lock : ℕ) → ((k : ℕ) (x : Want) → k < n → slice_index_or holds k None ≡ Some x → x.0 ≢ lock) → g.settled lock v.part → g.settled lock w.part

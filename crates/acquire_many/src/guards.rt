@@ -1,0 +1,91 @@
+//! The guards of several locks, by the position of their wants.
+ghost use Rattle.std.specs.Prelude.{◌≡◌, ℕ, None, length, slice_index_or};
+ghost use Rattle.acquire_many.specs.Guards.{said_by, says, want_of};
+ghost use Rattle.acquire_many.specs.Wants.{most};
+
+use hall::{ExclusiveGuard, Mode, SharedGuard, UpgradeGuard};
+
+/// The most locks that a call takes.
+pub const MANY: usize = 2;
+
+/// A hold of one of several locks. It must be given back: code that drops it doesn't compile.
+#[derive(Debug)]
+pub enum OneGuard {
+    Shared(SharedGuard),
+    Upgrade(UpgradeGuard),
+    Exclusive(ExclusiveGuard),
+}
+
+/// The holds of several locks, by the position of the wants; `None` past the last want. They must be given back by
+/// `unlock_many`, or one by one.
+#[derive(Debug)]
+pub struct Guards {
+    pub first: Option<OneGuard>,
+    pub second: Option<OneGuard>,
+}
+
+/// The guard that says this.
+pub(crate) fn guard_of(hold: (u64, Mode)) -> OneGuard
+    ensures { want_of result ≡ hold }
+{
+    let (lock, mode) = hold;
+    match mode {
+        Mode::Shared => OneGuard::Shared(SharedGuard { lock }),
+        Mode::Upgrade => OneGuard::Upgrade(UpgradeGuard { lock }),
+        Mode::Exclusive => OneGuard::Exclusive(ExclusiveGuard { lock }),
+    }
+}
+
+fn hold_of(guard: OneGuard) -> (u64, Mode)
+    ensures { result ≡ want_of guard }
+{
+    match guard {
+        OneGuard::Shared(SharedGuard { lock }) => (lock, Mode::Shared),
+        OneGuard::Upgrade(UpgradeGuard { lock }) => (lock, Mode::Upgrade),
+        OneGuard::Exclusive(ExclusiveGuard { lock }) => (lock, Mode::Exclusive),
+    }
+}
+
+fn guard_in(hold: Option<(u64, Mode)>) -> Option<OneGuard>
+    ensures { says result ≡ hold }
+{
+    match hold {
+        Some(hold) => Some(guard_of(hold)),
+        None => None,
+    }
+}
+
+fn hold_in(guard: Option<OneGuard>) -> Option<(u64, Mode)>
+    ensures { result ≡ says guard }
+{
+    match guard {
+        Some(guard) => Some(hold_of(guard)),
+        None => None,
+    }
+}
+
+/// No hold at any position.
+pub(crate) fn no_holds() -> [Option<(u64, Mode)>; MANY]
+    ensures none { (k : ℕ) → slice_index_or result k None ≡ None }
+    ensures room { length result ≡ most }
+{
+    [None; MANY]
+}
+
+/// The guards that say these, by position.
+pub(crate) fn guards_of(holds: &[Option<(u64, Mode)>; MANY]) -> Guards
+    ensures { said_by result ≡ holds.now }
+{
+    Guards {
+        first: guard_in(holds[0]),
+        second: guard_in(holds[1]),
+    }
+}
+
+/// What the guards say, by position. A guard can't be copied, and what it says can.
+pub(crate) fn holds_in(guards: Guards) -> [Option<(u64, Mode)>; MANY]
+    ensures { result ≡ said_by guards }
+{
+    let Guards { first, second } = guards;
+    [hold_in(first), hold_in(second)]
+}

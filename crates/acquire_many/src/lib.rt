@@ -1,0 +1,19 @@
+//! Several locks of a hall at once, each in its own mode. Whoever takes several locks takes them in the order of their
+//! numbers, as Folly's `acquireLocked` does by their addresses, so that no two passes wait for each other in a circle of
+//! these calls.
+//!
+//! The caller lists its wants in any order, and gets its guards by the position of the want. `lock_many` waits for each
+//! lock in turn. `try_many` tries each once, and gives back what it took where one is refused. No call takes memory.
+//!
+//! Its contracts say in which order the locks were gained, how the pass stands at each of them and elsewhere, what it
+//! knows of what they guard, and which footprints it left.
+#![tactic(auto)]
+
+mod guards;
+mod many;
+mod one;
+mod waits;
+mod wants;
+
+pub use guards::{Guards, MANY, OneGuard};
+pub use many::{SameCell, lock_many, unlock_many};
