@@ -1,12 +1,12 @@
 -- The soak's script, made one caller and one query at a time.
-use Rattle.std.proofs.Common.{◌≡◌, ℕ, zero, suc, ◌+◌, ◌-◌, ◌*◌, ◌/◌, ◌%◌, ◌<◌, ◌≤◌, ◌==◌, List, [], ◌∷◌, ◌++◌, length, take, get_or, set, refl, sym, ap, ◌∙◌, subst, arith, Bool, true, false, cond, sum_by, length-append}
+use Rattle.std.proofs.Common.{◌≡◌, ℕ, zero, suc, ◌+◌, ◌-◌, ◌*◌, ◌/◌, ◌%◌, ◌<◌, ◌≤◌, ◌==◌, List, [], ◌∷◌, ◌++◌, length, take, get_or, set, refl, sym, ap, ◌∙◌, arith, Bool, true, false, cond, length-append}
 use Rattle.std.proofs.Math.Seq.{set-append_seam, get_or-append_seam}
 use Rattle.std.proofs.lemmas.List.Sums.{sum_by-cons}
 use Rattle.std.specs.List.{AllByRecursion}
 use Rattle.query_rules.specs.declared.query.Query.{Query}
 use Rattle.query_rules.specs.declared.query.Query.TheVariants.{Get, Len, Add, Give}
 use Rattle.query_rules.specs.Grammar.{IsScript, TakesBelow, with_query}
-use Rattle.query_rules.specs.Soak.{soak_kind, soak_query, soak_from, share, soak_callers, soak_script}
+use Rattle.query_rules.specs.Soak.{soak_query, soak_from, share, soak_callers, soak_script}
 
 -- a query behind those of the last caller
 last_query : (front : List (List Query)) (last : List Query) (q : Query) → with_query (front ++ last ∷ []) q ≡ front ++ (last ++ q ∷ []) ∷ []

@@ -1,5 +1,5 @@
 -- What a history comes to, and that the soak comes to its summary whatever its history.
-use Rattle.std.specs.Prelude.{◌≡◌, ℕ, ◌≤◌, ◌⊎◌, ◌∷◌, [], List, None, sum_by, if◌then◌else◌}
+use Rattle.std.specs.Prelude.{◌≡◌, ℕ, ◌≤◌, ◌⊎◌, List, None, sum_by, if◌then◌else◌}
 use Rattle.query_rules.specs.declared.query.Query.{Query}
 use Rattle.query_rules.specs.declared.query.Query.TheVariants.{Add, Give}
 use Rattle.query_rules.specs.declared.query.Reply.{Reply}
