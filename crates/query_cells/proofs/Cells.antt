@@ -1,19 +1,19 @@
 -- What may be told of one held cell.
-use Rattle.std.specs.Prelude.{◌≡◌, ◌≢◌, ℕ, ◌+◌, ◌<◌, ◌≤◌, Bool, true, false, List, [], ◌∷◌, Some, None, Option, slice_index_or}
-use Rattle.std.proofs.Common.{refl, sym, ap, ◌∙◌, subst, ⊎_elim}
+use Rattle.std.specs.Prelude.{◌≡◌, ◌≢◌, ℕ, ◌+◌, ◌<◌, ◌≤◌, Bool, true, false, List, [], ◌∷◌, Some, None, Option, slice_index_or, cond, if◌then◌else◌}
+use Rattle.std.proofs.Common.{refl, sym, ap, ◌∙◌, subst, ⊎_elim, eq-eqb}
 use Rattle.lock_model.specs.Locks.{Has}
 use Rattle.lock_model.specs.declared.model.Mode.{Mode}
 use Rattle.hall.specs.declared.view.View.{View}
 use Rattle.hall.specs.declared.view.Standing.{Standing}
-use Rattle.hall.specs.declared.view.Standing.TheVariants.{Away, Inline, Exclusive}
-use Rattle.hall.specs.Cargo.{exclusive_mode}
+use Rattle.hall.specs.declared.view.Standing.TheVariants.{Away, Inline, Upgrade, Exclusive}
+use Rattle.hall.specs.Cargo.{exclusive_mode, upgrade_mode}
 use Rattle.hall.specs.Views.{standing, mode_of}
 use Rattle.shared_mutex.specs.Acquiring.{ElsewhereSame}
 use Rattle.query_rules.specs.declared.query.Query.{Query}
 use Rattle.query_rules.specs.declared.query.Query.TheVariants as query
 use Rattle.query_rules.specs.declared.query.Said.{Said}
-use Rattle.query_rules.specs.declared.query.Said.TheVariants.{Count}
-use Rattle.query_rules.specs.Maps.{Maps, PlainMap, reply_of, is_write, after, get_says, put_says}
+use Rattle.query_rules.specs.declared.query.Said.TheVariants.{Count, No, Yes}
+use Rattle.query_rules.specs.Maps.{Maps, PlainMap, reply_of, is_write, after, cas_says, get_says}
 use Rattle.map_cargo.specs.declared.size.MapCargo.{MapCargo}
 use Rattle.map_cargo.specs.declared.entry.Part.{Part}
 use Rattle.map_cargo.specs.Cells.{Means, lookup}
@@ -71,11 +71,11 @@ shared_is_some : (y : Standing) → y ≡ Inline → mode_of y ≢ None
 shared_is_some y is none = let e : mode_of Inline ≡ None = ap mode_of (sym is) ∙ none in cc
 
 -- what was read of a cell may be placed
-read_one : (c : MapCargo) (v w : View Part) (index lock cell : ℕ) (q : Query) (said : Said) → lock ≡ cell → spoken_cells q ≡ cell ∷ [] → cell < c.cells → Alike v w → w.part ≡ v.part → standing v cell ≡ Inline → reply_of c.rows (plain_of v.part) q ≡ Some said → is_write said ≡ false
+read_one : (c : MapCargo) (v w : View Part) (index lock cell : ℕ) (q : Query) (said : Said) → lock ≡ cell → spoken_cells q ≡ cell ∷ [] → cell < c.cells → Alike v w → w.part ≡ v.part → mode_of (standing v cell) ≢ None → reply_of c.rows (plain_of v.part) q ≡ Some said → is_write said ≡ false
     → MayPlace c w (entry_for w.number index q said)
 read_one c v w index lock cell q said at names near alike same held says reads = record {
   near = λ k has. subst (λ (i : ℕ). i < c.cells) (sym (one_in (spoken_cells q) cell k names has)) near;
-  holds = λ k has. subst (λ (i : ℕ). mode_of (standing w i) ≢ None) (sym (one_in (spoken_cells q) cell k names has)) (shared_is_some (standing w cell) (still_stands v w cell alike ∙ held));
+  holds = λ k has. subst (λ (i : ℕ). mode_of (standing w i) ≢ None) (sym (one_in (spoken_cells q) cell k names has)) (λ none. held (sym (ap mode_of (still_stands v w cell alike)) ∙ none));
   said = ap (λ (p : Part). reply_of c.rows (plain_of p) q) same ∙ says;
   reads = reads;
 }
@@ -87,11 +87,27 @@ get_reads None = refl
 pub may_look : (c : MapCargo) (v w : View Part) (index cell key : ℕ) (q : Query) (said : Said) → AsksValue q cell key → cell < c.cells → Alike v w → w.part ≡ v.part → standing v cell ≡ Inline → said ≡ get_says ((plain_of v.part cell).value_at key)
     → MayPlace c w (entry_for w.number index q said)
 may_look c v w index cell key q said asks near alike same held is =
-    read_one c v w index cell cell q said refl asks.names near alike same held (asks.says c.rows (plain_of v.part) ∙ ap (λ (s : Said). Some s) (sym is)) (ap is_write is ∙ get_reads ((plain_of v.part cell).value_at key))
+    read_one c v w index cell cell q said refl asks.names near alike same (shared_is_some (standing v cell) held) (asks.says c.rows (plain_of v.part) ∙ ap (λ (s : Said). Some s) (sym is)) (ap is_write is ∙ get_reads ((plain_of v.part cell).value_at key))
 
 pub may_count : (c : MapCargo) (v w : View Part) (index cell n : ℕ) → cell < c.cells → Alike v w → w.part ≡ v.part → standing v cell ≡ Inline → n ≡ (plain_of v.part cell).count
     → MayPlace c w (entry_for w.number index (query.Len cell) (Count n))
-may_count c v w index cell n near alike same held is = read_one c v w index cell cell (query.Len cell) (Count n) refl refl near alike same held (ap (λ (k : ℕ). Some (Count k)) (sym is)) refl
+may_count c v w index cell n near alike same held is = read_one c v w index cell cell (query.Len cell) (Count n) refl refl near alike same (shared_is_some (standing v cell) held) (ap (λ (k : ℕ). Some (Count k)) (sym is)) refl
+
+-- what a pass that holds upgrade found other than expected may be placed
+upgrade_is_some : (y : Standing) → y ≡ Upgrade → mode_of y ≢ None
+upgrade_is_some y is none = let e : mode_of Upgrade ≡ None = ap mode_of (sym is) ∙ none in cc
+
+pub may_compare : (c : MapCargo) (v w : View Part) (index cell key old new : ℕ) (said : Said) → cell < c.cells → Alike v w → w.part ≡ v.part → standing v cell ≡ Upgrade → cas_says ((plain_of v.part cell).value_at key) old ≡ said → is_write said ≡ false
+    → MayPlace c w (entry_for w.number index (query.Cas cell key old new) said)
+may_compare c v w index cell key old new said near alike same held says reads =
+    read_one c v w index cell cell (query.Cas cell key old new) said refl refl near alike same (upgrade_is_some (standing v cell) held) (ap (λ (s : Said). Some s) says) reads
+
+pub compared_mode : (cell key old new : ℕ) (said : Said) → is_write said ≡ false → mode_for (query.Cas cell key old new) said ≡ upgrade_mode
+compared_mode cell key old new said reads = ap (λ (b : Bool). cond b exclusive_mode upgrade_mode) reads
+
+-- and a key that has the expected value may get the new one
+pub says_yes : (o : Option ℕ) (old : ℕ) → o ≡ Some old → cas_says o old ≡ Yes
+says_yes o old has = ap (λ (p : Option ℕ). cas_says p old) has ∙ ap (λ (b : Bool). if b then Yes else No old) (eq-eqb old old refl)
 
 -- the plain maps stay where words alone change
 same_plain : (p r : Part) → r.made ≡ p.made → plain_of r ≡ plain_of p

@@ -14,8 +14,8 @@ use Rattle.hall.specs.declared.view.Kind.TheVariants.{LoadCargo, AddCargo, Store
 use Rattle.hall.specs.declared.view.Shape.{Shape}
 use Rattle.hall.specs.declared.view.StepEntry.{StepEntry}
 use Rattle.hall.specs.declared.view.Standing.{Standing}
-use Rattle.hall.specs.declared.view.Standing.TheVariants.{Away, Inline, Exclusive}
-use Rattle.hall.specs.Cargo.{shared_mode, exclusive_mode}
+use Rattle.hall.specs.declared.view.Standing.TheVariants.{Away, Inline, Upgrade}
+use Rattle.hall.specs.Cargo.{shared_mode, upgrade_mode, exclusive_mode}
 use Rattle.hall.specs.Views.{standing, mode_of, entry_of, place_of}
 use Rattle.shared_mutex.specs.Acquiring.{ElsewhereSame}
 use Rattle.query_rules.specs.declared.query.Query.{Query}
@@ -167,10 +167,16 @@ leads_then c v u w a b = record {
       ∙ a.back k;
 }
 
--- a pass that holds one cell for reading holds all that a placed reply to its query speaks of so
-pub holds_read : (v : View Part) (lock : ℕ) (q : Query) (said : Said) → standing v lock ≡ Inline → ((k : ℕ) → k ≢ lock → standing v k ≡ Away) → ((k : ℕ) → Has (spoken_cells q) k → mode_of (standing v k) ≢ None) → mode_for q said ≡ shared_mode → HoldsFor q said v
-holds_read v lock q said inline only some mode = record {
+-- a pass that holds one cell alone holds all that a placed reply to its query speaks of in the mode of its hold
+holds_one : (v : View Part) (lock : ℕ) (q : Query) (said : Said) (y : Standing) → standing v lock ≡ y → ((k : ℕ) → k ≢ lock → standing v k ≡ Away) → ((k : ℕ) → Has (spoken_cells q) k → mode_of (standing v k) ≢ None) → mode_for q said ≡ mode_of y → HoldsFor q said v
+holds_one v lock q said y holds only some mode = record {
   each = λ k has. dite (ℕ_discrete k lock)
-      (λ here. ap (λ (i : ℕ). mode_of (standing v i)) here ∙ ap mode_of inline ∙ sym mode)
+      (λ here. ap (λ (i : ℕ). mode_of (standing v i)) here ∙ ap mode_of holds ∙ sym mode)
       (λ ne. absurd (some k has (ap mode_of (only k ne))));
 }
+
+pub holds_read : (v : View Part) (lock : ℕ) (q : Query) (said : Said) → standing v lock ≡ Inline → ((k : ℕ) → k ≢ lock → standing v k ≡ Away) → ((k : ℕ) → Has (spoken_cells q) k → mode_of (standing v k) ≢ None) → mode_for q said ≡ shared_mode → HoldsFor q said v
+holds_read v lock q said inline only some mode = holds_one v lock q said Inline inline only some mode
+
+pub holds_upgrade : (v : View Part) (lock : ℕ) (q : Query) (said : Said) → standing v lock ≡ Upgrade → ((k : ℕ) → k ≢ lock → standing v k ≡ Away) → ((k : ℕ) → Has (spoken_cells q) k → mode_of (standing v k) ≢ None) → mode_for q said ≡ upgrade_mode → HoldsFor q said v
+holds_upgrade v lock q said upgrade only some mode = holds_one v lock q said Upgrade upgrade only some mode

@@ -8,7 +8,7 @@ use Rattle.hall.specs.declared.guards.TryFault.TheVariants.{Busy, Raced}
 use Rattle.hall.specs.declared.view.Kind.{Kind}
 use Rattle.hall.specs.declared.view.Kind.TheVariants as kinds
 use Rattle.hall.specs.declared.view.Standing.{Standing}
-use Rattle.hall.specs.declared.view.Standing.TheVariants.{Away}
+use Rattle.hall.specs.declared.view.Standing.TheVariants.{Away, Exclusive}
 use Rattle.hall.specs.declared.view.View.{View}
 use Rattle.hall.specs.Plays.{Retracts}
 use Rattle.hall.specs.Refusals.{BusyForReading, BusyForWriting, ReadTwoWords}
@@ -20,6 +20,8 @@ use Rattle.shared_mutex.specs.Refused.{AddsReads, GoesOn, ReadAsReader, ReadAsWr
 use Rattle.shared_mutex.specs.TriesRefused.{looked_goes_on}
 use Rattle.shared_mutex.specs.Tries.{AddsSteps, AnnouncesAtLast, GivesUp, IsTry, OnlyLooked, WritersRefused}
 use Rattle.shared_mutex.specs.TryLaws.{reader_looked, writer_looked}
+use Rattle.upgrade_mode.specs.Holding.{BeginsUpgrade}
+use Rattle.upgrade_mode.specs.Tries.{RisesAtLast}
 use Rattle.sync_cell.specs.Waits.{GaveUpLate}
 use Rattle.map_cargo.specs.declared.size.MapCargo.{MapCargo}
 use Rattle.map_cargo.specs.declared.entry.Part.{Part}
@@ -101,6 +103,16 @@ module _ (g : Ghosts MapCargo Part) where
   announced_at_last v lock faults a e =
       let u : View Part = e.0 in let won = e.3 in let b : View Part = won.0 in
       unchanged_then v b a (unchanged_then v u b (unchanged_look v u lock e.2) (announced u b lock won.1)) (swept lock v.shape.slots won.2.0 b a won.2.1)
+
+  -- an upgrade holder was announced at last, swept, and took the lock at last
+  begun : (v u : View Part) (lock : ℕ) → BeginsUpgrade g v lock u → Unchanged v u
+  begun v u lock a = unchanged_then v (after_look v kinds.Load lock a.0) u (unchanged_once v kinds.Load lock a.0) (unchanged_step (after_look v kinds.Load lock a.0) u kinds.Up lock a.0 true _ a.2.0)
+
+  pub rose_at_last : (v : View Part) (lock : ℕ) (faults misses : List TryFault) (w : View Part) → RisesAtLast g v lock faults misses w → Unchanged v w
+  rose_at_last v lock faults misses w e =
+      let a : View Part = e.0 in let s = e.1 in let won = s.3 in let b : View Part = won.0 in let h = e.2 in
+      unchanged_then v b w (unchanged_then v s.0 b (unchanged_look v s.0 lock s.2) (begun s.0 b lock won.1))
+      (unchanged_then b a w (swept lock v.shape.slots won.2.0 b a won.2.1) (unchanged_then a h.0 w (unchanged_look a h.0 lock h.2) (unchanged_step h.0 w kinds.Hold lock 6 true Exclusive h.3.0)))
 
   gave_up : (v : View Part) (lock : ℕ) (faults misses : List TryFault) (w : View Part) → GivesUp g v lock faults misses w → Unchanged v w
   gave_up v lock faults misses w e =

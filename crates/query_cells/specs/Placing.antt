@@ -6,7 +6,7 @@ use Rattle.hall.specs.declared.view.View.{View}
 use Rattle.hall.specs.declared.view.Kind.TheVariants.{LoadCargo, AddCargo}
 use Rattle.hall.specs.declared.view.StepEntry.{StepEntry}
 use Rattle.hall.specs.declared.view.Standing.{Standing}
-use Rattle.hall.specs.Cargo.{shared_mode, exclusive_mode}
+use Rattle.hall.specs.Cargo.{shared_mode, upgrade_mode, exclusive_mode}
 use Rattle.hall.specs.Views.{standing, mode_of}
 use Rattle.hall.specs.Views as views
 use Rattle.query_rules.specs.declared.query.Query.{Query}
@@ -22,14 +22,14 @@ use Rattle.map_cargo.specs.Cells.{number_place}
 use Rattle.map_cargo.specs.Entries.{spoken_cells}
 use Rattle.map_cargo.specs.Steps.{MoreSteps}
 
--- the mode in which a query holds each cell that this reply to it speaks of, at the step that places the reply; a query of the ledger holds none
+-- the mode in which a query holds each cell that this reply to it speaks of, at the step that places the reply; a query of the ledger holds none. A `cas` writes where the key has the expected value, and else only looked
 abbrev pub mode_for : Query → Said → Option Mode
 mode_for (Get cell key) said = shared_mode
 mode_for (Len cell) said = shared_mode
 mode_for (Put cell key value) said = exclusive_mode
 mode_for (Del cell key) said = exclusive_mode
 mode_for (Add cell key delta) said = exclusive_mode
-mode_for (Cas cell key old new) said = exclusive_mode
+mode_for (Cas cell key old new) said = cond (is_write said) exclusive_mode upgrade_mode
 mode_for (PutLen cell key value) said = exclusive_mode
 mode_for (Move a b key n) said = exclusive_mode
 mode_for (Both a b key) said = shared_mode

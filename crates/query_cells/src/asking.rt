@@ -27,7 +27,8 @@ use std::sync::Wait;
 /// `index` of their caller, and answers its one reply.
 ///
 /// The maps' queries take their cells by waiting, in the mode that they need: `get`, `len` and `both` for reading; `put`,
-/// `del`, `add`, `cas`, `putlen` and `move` for writing. Two cells are taken one after the other: the one of the lower
+/// `del`, `add`, `putlen` and `move` for writing; `cas` in upgrade mode, beside readers, from which it goes on to write
+/// only where the key has the expected value. `putlen` lets readers in, by one step, before it gives its cell back. Two cells are taken one after the other: the one of the lower
 /// number is held before the other is tried for. Two that are the same one aren't taken.
 ///
 /// `tryget` and `tryput` try, again where another pass came between, and are `Busy` at the first word that conflicts:
@@ -42,8 +43,7 @@ use std::sync::Wait;
 /// answer is the last of the other pass's own list, which has one job less to run. `give` and `take` may be run by whoever
 /// owns the ledger's lock, and `audit` by this pass alone.
 ///
-/// A query of a cell looks at up to as many rows as the cell has keys. Its contract holds if it returns. It takes no
-/// memory.
+/// A query of a cell looks at up to all rows of the cell. Its contract holds if it returns. It takes no memory.
 pub fn ask<R: Wait, T: Clock>(
     rt: &R,
     hall: &Hall<MapCargo>,

@@ -13,9 +13,9 @@ ghost use Rattle.sync_cell.specs.Gains.{IsQuiet};
 ghost use Rattle.query_cells.specs.Asked.{is_granted};
 ghost use Rattle.query_cells.specs.Answers.{AsksValue, AsksPut, OnlyAt, Tells};
 
-use crate::changes::{raise, remove, store, store_counted, swap};
-use crate::holding::{hold_for_reading, hold_for_writing};
-use crate::telling::{answer, answer_read};
+use crate::changes::{compare, raise, remove, store, store_counted, swap};
+use crate::holding::{go_on_to_write, hold_for_reading, hold_for_upgrade, hold_for_writing};
+use crate::telling::{answer, answer_lowered, answer_read, answer_upgraded};
 use hall::{Hall, Pass};
 use map_cargo::{MapCargo, get, len};
 use query_rules::{Query, Reply, Said};
@@ -42,7 +42,7 @@ fn look_up(hall: &Hall<MapCargo>, pass: &mut Pass<MapCargo>, cell: u64, key: u64
 }
 
 /// Answers a query that asks for the value of a key in the one cell that the pass holds, for reading, and gives the cell
-/// back. It looks at up to as many rows as the cell has keys.
+/// back. It looks at up to all rows of the cell.
 #[tactic(auto, using(crate::proofs::Cells::may_look, crate::proofs::Cells::nothing_read, crate::proofs::Replies::tells_after))]
 pub(crate) fn answer_value(
     hall: &Hall<MapCargo>,
@@ -70,7 +70,7 @@ pub(crate) fn answer_value(
 }
 
 /// Answers a query that gives a key a value in the one cell that the pass holds, for writing, and gives the cell back. It
-/// looks at up to as many rows as the cell has keys.
+/// looks at up to all rows of the cell.
 #[tactic(auto, using(crate::proofs::Cells::may_put, crate::proofs::Cells::stored_put, crate::proofs::Cells::nothing_changed, crate::proofs::Replies::tells_after))]
 pub(crate) fn answer_put(
     hall: &Hall<MapCargo>,
@@ -221,8 +221,9 @@ pub(crate) fn ask_add<R: Wait>(
     answer(hall, pass, ptr, index, &query, said)
 }
 
-/// Gives a key the value `new` where it has `old`. The cell is held for writing all the while.
-#[tactic(auto, using(crate::proofs::Cells::only_here, crate::proofs::Cells::may_answer, crate::proofs::Cells::stored_here, crate::proofs::Cells::nothing_changed, crate::proofs::Replies::nothing_gained, crate::proofs::Replies::nothing_then, crate::proofs::Replies::tells_after))]
+/// Gives a key the value `new` where it has `old`. It looks in upgrade mode, beside readers, and goes
+/// on to write only where it has `old`; nobody else can write in between.
+#[tactic(auto, using(crate::proofs::Cells::only_here, crate::proofs::Cells::may_answer, crate::proofs::Cells::may_compare, crate::proofs::Cells::compared_mode, crate::proofs::Cells::stored_here, crate::proofs::Cells::nothing_changed, crate::proofs::Replies::nothing_gained, crate::proofs::Replies::nothing_then, crate::proofs::Replies::tells_after))]
 pub(crate) fn ask_cas<R: Wait>(
     rt: &R,
     hall: &Hall<MapCargo>,
@@ -248,12 +249,19 @@ pub(crate) fn ask_cas<R: Wait>(
         old,
         new,
     };
-    let ptr = hold_for_writing(rt, hall, pass, cell);
-    let said = swap(hall, pass, cell, key, old, new);
-    answer(hall, pass, ptr, index, &query, said)
+    let ptr = hold_for_upgrade(rt, hall, pass, cell);
+    match compare(hall, pass, cell, key, old) {
+        Ok(()) => {
+            let ptr = go_on_to_write(rt, hall, pass, ptr);
+            swap(hall, pass, cell, key, new);
+            answer(hall, pass, ptr, index, &query, Said::Yes)
+        }
+        Err(said) => answer_upgraded(hall, pass, ptr, index, &query, said),
+    }
 }
 
-/// Gives a key a value, and tells how many keys there are then. The cell is held for writing all the while.
+/// Gives a key a value, and tells how many keys there are then. It writes, counts and draws while it holds the cell for
+/// writing; then it lets readers in by one step, and gives the cell back by another.
 #[tactic(auto, using(crate::proofs::Cells::only_here, crate::proofs::Cells::may_answer, crate::proofs::Cells::stored_here, crate::proofs::Cells::nothing_changed, crate::proofs::Replies::nothing_gained, crate::proofs::Replies::nothing_then, crate::proofs::Replies::tells_after))]
 pub(crate) fn ask_put_len<R: Wait>(
     rt: &R,
@@ -276,5 +284,5 @@ pub(crate) fn ask_put_len<R: Wait>(
     let query = Query::PutLen { cell, key, value };
     let ptr = hold_for_writing(rt, hall, pass, cell);
     let said = store_counted(hall, pass, cell, key, value);
-    answer(hall, pass, ptr, index, &query, said)
+    answer_lowered(hall, pass, ptr, index, &query, said)
 }
