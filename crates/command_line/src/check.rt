@@ -1,7 +1,8 @@
 // From words to options.
 ghost use Rattle.std.specs.Prelude.{◌≡◌, ◌≤◌, true, false, IfOk, IfSome, IfErr, IsErrOf, Some, None, map, option_map, codes, string_bytes};
 ghost use Rattle.clap.specs.Words.{app_of, first_of, found_of, matches_of, rows_of, rule_of, takes};
-ghost use Rattle.command_line.specs.Form.{IsWithinLimits, mode_named, number_or, options_in, options_of, policy_or, texts_of};
+ghost use Rattle.command_line.specs.Form.{IsWithinLimits, SuitsSoak, count_for, mode_named, number_or, options_in, options_of, policy_or, rows_for, run_in, texts_of};
+ghost use Rattle.command_line.specs.declared.options.RunMode.TheVariants.{Soak};
 ghost use Rattle.command_line.specs.Program.{option_rule, program};
 
 use crate::{Options, Policy, RunMode, WordsFault};
@@ -30,7 +31,8 @@ fn command<'a>(alloc: Global) -> Result<Command<'a>, AllocError>
         .arg(option(alloc, "rows"))?
         .arg(option(alloc, "slots"))?
         .arg(option(alloc, "combine"))?
-        .arg(option(alloc, "priority"))
+        .arg(option(alloc, "priority"))?
+        .arg(option(alloc, "count"))
 }
 
 // The value of an argument.
@@ -45,6 +47,8 @@ fn mode_from(word: &str) -> Option<RunMode>
 {
     if word == "run" {
         Some(RunMode::Run)
+    } else if word == "soak" {
+        Some(RunMode::Soak)
     } else {
         None
     }
@@ -82,24 +86,53 @@ fn number_from(word: Option<&str>, low: u64, high: u64, default: u64) -> Option<
     if low <= n && n <= high { Some(n) } else { None }
 }
 
+// How many rows a cell has: they may be chosen for a run alone.
+#[tactic(auto, unfolding(crate::specs::Form::rows_for))]
+fn rows_from(mode: RunMode, word: Option<&str>) -> Option<u64>
+    ensures value { result ≡ rows_for mode (option_map (λ s. s.now) word.entry) }
+    ensures within { IfSome result (λ n. (1 ≤ n) × (n ≤ 65536)) }
+    ensures soak { mode ≡ Soak → IfSome result (λ n. n ≡ 16) }
+{
+    match mode {
+        RunMode::Run => number_from(word, 1, 65_536, 1024),
+        RunMode::Soak if word.is_none() => Some(16),
+        RunMode::Soak => None,
+    }
+}
+
+// How many queries a soak has: they may be chosen for a soak alone.
+#[tactic(auto, unfolding(crate::specs::Form::count_for))]
+fn count_from(mode: RunMode, word: Option<&str>) -> Option<u64>
+    ensures value { result ≡ count_for mode (option_map (λ s. s.now) word.entry) }
+    ensures within { IfSome result (λ n. (1 ≤ n) × (n ≤ 1000000)) }
+{
+    match mode {
+        RunMode::Run if word.is_none() => Some(1000),
+        RunMode::Run => None,
+        RunMode::Soak => number_from(word, 1, 1_000_000, 1000),
+    }
+}
+
 // What the values of the arguments ask for.
 #[tactic(auto, unfolding(crate::specs::Form::options_of))]
 fn options(matches: &ArgMatches<'_>) -> Option<Options>
     ensures value { result ≡ options_of (rows_of (found_of matches.now)) }
     ensures limits { IfSome result IsWithinLimits }
+    ensures soak { IfSome result SuitsSoak }
 {
     let mode = mode_from(given(matches, "mode")?)?;
-    let rows = number_from(given(matches, "rows"), 1, 65_536, 1024)?;
+    let rows = rows_from(mode, given(matches, "rows"))?;
     let slots = number_from(given(matches, "slots"), 1, 256, 32)?;
     let combine = number_from(given(matches, "combine"), 0, 1024, 64)?;
     let policy = policy_from(given(matches, "priority"))?;
+    let count = count_from(mode, given(matches, "count"))?;
     Some(Options {
         mode,
         rows,
         slots,
         combine: combine as u32,
         policy,
-        count: 1000,
+        count,
     })
 }
 
@@ -120,7 +153,21 @@ pub fn check_words(alloc: Global, words: &[String]) -> Result<Options, WordsFaul
     ensures ok { IfOk result (λ o. options_in words.now ≡ Some o) }
     ensures usage { IsErrOf result WordsFault.Usage → options_in words.now ≡ None }
     ensures limits { IfOk result IsWithinLimits }
+    ensures soak { IfOk result SuitsSoak }
 {
     let matches = matches_in(alloc, words)?;
     options(&matches).ok_or(WordsFault::Usage)
+}
+
+/// As [`check_words`], and `Usage` also where they ask for a soak.
+pub fn check_run(alloc: Global, words: &[String]) -> Result<Options, WordsFault>
+    ensures ok { IfOk result (λ o. run_in words.now ≡ Some o) }
+    ensures usage { IsErrOf result WordsFault.Usage → run_in words.now ≡ None }
+    ensures limits { IfOk result IsWithinLimits }
+{
+    let options = check_words(alloc, words)?;
+    match options.mode {
+        RunMode::Run => Ok(options),
+        RunMode::Soak => Err(WordsFault::Usage),
+    }
 }

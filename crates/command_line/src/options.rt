@@ -13,6 +13,8 @@ use std::alloc::AllocError;
 pub enum RunMode {
     /// Runs the script that the source gives.
     Run,
+    /// Runs a script of its own, and reads nothing.
+    Soak,
 }
 
 /// What the words ask for.
@@ -20,7 +22,7 @@ pub enum RunMode {
 pub struct Options {
     pub mode: RunMode,
     /// The most keys that a cell may have, and the most accounts of the ledger: 1 to 65,536, and
-    /// 1,024 without a word.
+    /// 1,024 without a word. A soak has 16.
     pub rows: u64,
     /// Slots that the locks' deferred readers share: 1 to 256, and 32 without a word.
     pub slots: u64,
@@ -28,7 +30,8 @@ pub struct Options {
     pub combine: u32,
     /// Whether a waiting writer keeps new readers out: without a word it does.
     pub policy: Policy,
-    /// Queries that the program makes for itself: 1,000, which no mode uses yet.
+    /// The queries of a soak: 1 to 1,000,000, and 1,000 without a word. A run has 1,000 here, which
+    /// it doesn't use.
     pub count: u64,
 }
 

@@ -1,4 +1,4 @@
-use crate::{Options, Policy, RunMode, WordsFault, check_words};
+use crate::{Options, Policy, RunMode, WordsFault, check_run, check_words};
 use std::test::Fail;
 
 fn asked(rt: &HostRuntime, words: &[&str]) -> Result<Result<Options, WordsFault>, Fail> {
@@ -19,9 +19,15 @@ const RUN: Options = Options {
     count: 1000,
 };
 
+const SOAK: Options = Options {
+    mode: RunMode::Soak,
+    rows: 16,
+    ..RUN
+};
+
 #[test]
 fn usage(rt: HostRuntime) -> Result<(), Fail> {
-    let lists: [&[&str]; 29] = [
+    let lists: [&[&str]; 34] = [
         &[],
         &["run", "--rows", "0"],
         &["run", "--rows", "01"],
@@ -45,9 +51,14 @@ fn usage(rt: HostRuntime) -> Result<(), Fail> {
         &["run", "--slots", "257"],
         &["run", "--combine", "1025"],
         &["run", "--priority", "Write"],
-        &["soak"],
-        &["soak", "--count=16"],
         &["run", "--count=5"],
+        &["soak", "--rows", "16"],
+        &["soak", "--count", "0"],
+        &["soak", "--count", "01"],
+        &["soak", "--count", "1000001"],
+        &["soak", "--count=5", "--count=5"],
+        &["soak", "run"],
+        &["--count", "5"],
         &["run", "--", "--rows", "5"],
         &["run", "--help"],
         &["run", "--version"],
@@ -61,7 +72,7 @@ fn usage(rt: HostRuntime) -> Result<(), Fail> {
 #[test]
 fn taken(rt: HostRuntime) -> Result<(), Fail> {
     let five = Options { rows: 5, ..RUN };
-    let lists: [(&[&str], Options); 17] = [
+    let lists: [(&[&str], Options); 22] = [
         (&["run"], RUN),
         (&["run", "--rows", "5"], five),
         (&["run", "--rows=5"], five),
@@ -103,9 +114,45 @@ fn taken(rt: HostRuntime) -> Result<(), Fail> {
             },
         ),
         (&["run", "--priority=write"], RUN),
+        (&["soak"], SOAK),
+        (&["soak", "--count=16"], Options { count: 16, ..SOAK }),
+        (&["--count", "1", "soak"], Options { count: 1, ..SOAK }),
+        (
+            &["soak", "--count", "1000000"],
+            Options {
+                count: 1_000_000,
+                ..SOAK
+            },
+        ),
+        (
+            &[
+                "soak",
+                "--slots",
+                "1",
+                "--combine",
+                "0",
+                "--priority",
+                "read",
+            ],
+            Options {
+                slots: 1,
+                combine: 0,
+                policy: Policy::ReadPriority,
+                ..SOAK
+            },
+        ),
     ];
     for (words, options) in &lists {
         assert_eq!(rt; asked(&rt, *words)?, Ok(*options), "{words:?}");
     }
+    Ok(())
+}
+
+#[test]
+fn a_soak_is_no_run(rt: HostRuntime) -> Result<(), Fail> {
+    let soak = vec![in rt.alloc(); "soak".to_string(rt.alloc())?]?;
+    assert_eq!(rt; check_run(rt.alloc(), &soak), Err(WordsFault::Usage));
+    let run = vec![in rt.alloc(); "run".to_string(rt.alloc())?]?;
+    assert_eq!(rt; check_run(rt.alloc(), &run), Ok(RUN));
     Ok(())
 }

@@ -300,11 +300,11 @@ section_from section asked told spots paired order =
       text_is = ap (spots_text asked told) u.are ∙ spots_text_is asked told u.items at;
     }
 
-is_log_true : (cells rows callers : ℕ) (lines : List Answered) → 0 < cells → cells ≤ 64 → callers ≤ 1 → length lines ≤ 1000000 → AllByRecursion (Answers cells) lines → is_log (record { cells = cells; rows = rows; callers = callers; lines = lines }) ≡ true
-is_log_true cells rows callers lines some few one all good =
+is_log_true : (cells rows callers : ℕ) (lines : List Answered) → 0 < cells → cells ≤ 64 → callers ≤ 64 → length lines ≤ 1000000 → AllByRecursion (Answers cells) lines → is_log (record { cells = cells; rows = rows; callers = callers; lines = lines }) ≡ true
+is_log_true cells rows callers lines some few crowd all good =
     let a : nat_lt 0 cells ≡ true = search (rules, tests, some) in
     let b : nat_le cells 64 ≡ true = search (rules, tests, few) in
-    let c : nat_le callers 1 ≡ true = search (rules, tests, one) in
+    let c : nat_le callers 64 ≡ true = search (rules, tests, crowd) in
     let d : nat_le (length lines) 1000000 ≡ true = search (rules, tests, all) in
     rw (a, b, c, d, all_from (is_answer cells) lines good) refl
 
@@ -312,11 +312,11 @@ pub lines_from : (s : Asked) (rows : ℕ) (told : List (List Reply)) (bytes : Li
 lines_from s rows told bytes h =
     let script = h.script in
     let few_cells = script.cells in
-    let one = script.one in
+    let crowd = script.crowd in
     let few = script.few in
     let all : List Answered = answered_of 0 s.callers told in
     let paired = pairs_from s.callers told h.kinds in
-    let fits : AllByRecursion IsWritable all = of_writable 0 s.callers told (omega (arith, one)) (omega (arith, few)) h.asks h.tells in
+    let fits : AllByRecursion IsWritable all = of_writable 0 s.callers told (omega (arith, crowd)) (omega (arith, few)) h.asks h.tells in
     let m = section_from Maps s.callers told (take (placed_count told) h.order) paired h.in_order.maps in
     let j = section_from Jobs s.callers told (drop (placed_count told) h.order) paired h.in_order.jobs in
     let r : List Answered = section_lines 1 all in
@@ -336,8 +336,8 @@ lines_from s rows told bytes h =
       lines = lines;
       of = record { paired = paired; each = each; sorted = up };
       log = record {
-        writable = record { cells = omega (arith, few_cells); rows = h.room; callers = omega (arith, one); lines = all_moved IsWritable all lines each fits };
-        fits = is_log_true s.cells rows (length s.callers) lines script.some few_cells one (omega (arith, count, long, few)) good;
+        writable = record { cells = omega (arith, few_cells); rows = h.room; callers = omega (arith, crowd); lines = all_moved IsWritable all lines each fits };
+        fits = is_log_true s.cells rows (length s.callers) lines script.some few_cells crowd (omega (arith, count, long, few)) good;
       };
       text_is = h.text_is ∙ parts_text s rows told h.order _ _ m.lines r j.lines refl refl m.text_is (refused_is s.callers told) j.text_is (totals_are s.callers told lines paired each);
     }

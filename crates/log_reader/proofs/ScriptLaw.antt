@@ -57,7 +57,7 @@ log_script s rows told text h =
     let fits = h.log.fits in
     let a = and_parts _ (list_all (is_answer s.cells) h.lines) fits in
     let b = and_parts _ (nat_le (length h.lines) 1000000) a.0 in
-    let d = and_parts _ (nat_le (length s.callers) 1) b.0 in
+    let d = and_parts _ (nat_le (length s.callers) 64) b.0 in
     let e = and_parts (nat_lt 0 s.cells) (nat_le s.cells 64) d.0 in
     let all = all_moved (Good s.cells) h.lines (answered_of 0 s.callers told) (IsPermutation-sym _ _ h.of.each) (all_true (is_answer s.cells) h.lines a.1) in
     let count = count_of 0 s.callers told h.of.paired in
@@ -66,7 +66,7 @@ log_script s rows told text h =
     record {
       some = search (rules, tests, e.0);
       cells = search (rules, tests, e.1);
-      one = search (rules, tests, d.1);
+      crowd = search (rules, tests, d.1);
       few = omega (arith, count, same, few);
       taken = taken_of s.cells 0 s.callers told h.of.paired all;
     }

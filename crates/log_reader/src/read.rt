@@ -12,11 +12,9 @@ use crate::LogFault;
 use crate::checks::{all_answers, is_sorted, sort_lines};
 use crate::group::groups;
 use crate::listing::{Page, read_page};
+use query_rules::MOST_CALLERS;
 use query_text::{Outcome, Script};
 use std::alloc::Global;
-
-/// The most callers that a script may have.
-const MOST_CALLERS: u64 = 1;
 
 /// The most queries that a script may have.
 const MOST_QUERIES: usize = 1_000_000;

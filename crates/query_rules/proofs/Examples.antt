@@ -1,5 +1,5 @@
 -- The definitions at worked examples: each holds by computation.
-use Rattle.std.proofs.Common.{◌≡◌, ℕ, List, [], ◌∷◌, ◌++◌, Some, None, Ok, Err, refl, codes}
+use Rattle.std.proofs.Common.{◌≡◌, ℕ, zero, suc, List, [], ◌∷◌, ◌++◌, Some, None, Ok, Err, refl, codes}
 use Rattle.std.specs.declared.option.Option.{Option}
 use Rattle.query_rules.specs.declared.query.Query.{Query}
 use Rattle.query_rules.specs.declared.query.Query.TheVariants.{Get, Put, Del, Add, Cas, PutLen, Move, Give}
@@ -9,9 +9,9 @@ use Rattle.query_rules.specs.Maps.{no_entries, reply_of}
 use Rattle.query_rules.specs.History.{replay, place_of}
 use Rattle.std.specs.declared.result.Result.{Result}
 use Rattle.query_rules.specs.declared.query.Cause.{Cause}
-use Rattle.query_rules.specs.declared.query.Cause.TheVariants.{BadByte, Spacing, MissingCells, Unknown, WordCount, NotYet, NoCaller, BadNumber, CellRange}
+use Rattle.query_rules.specs.declared.query.Cause.TheVariants.{BadByte, Spacing, MissingCells, Unknown, WordCount, TooManyCallers, NoCaller, BadNumber, CellRange}
 use Rattle.query_rules.specs.Words.{lines_of, words_of, number_of}
-use Rattle.query_rules.specs.Grammar.{Asked, said_by}
+use Rattle.query_rules.specs.Grammar.{Asked, said_by, caller_line}
 use Rattle.query_rules.specs.declared.query.LedgerAct.{LedgerAct}
 use Rattle.query_rules.specs.declared.query.LedgerAct.TheVariants as job
 use Rattle.query_rules.specs.declared.query.LedgerTold.TheVariants as told
@@ -167,8 +167,23 @@ missing : said_by [] ≡ Err (1, MissingCells)
 missing = refl
 
 -- a second caller
-second_caller : third (codes "caller") ≡ Err (3, NotYet)
+second_caller : third (codes "caller") ≡ Ok (record { cells = 1; callers = [] ∷ [] ∷ [] })
 second_caller = refl
+
+-- so many callers that ask nothing
+abbrev idle : ℕ → List (List Query)
+idle zero = []
+idle (suc n) = [] ∷ idle n
+
+last_caller : caller_line (record { cells = 1; callers = idle 63 }) (codes "caller" ∷ []) ≡ Ok (record { cells = 1; callers = idle 64 })
+last_caller = refl
+
+too_many_callers : caller_line (record { cells = 1; callers = idle 64 }) (codes "caller" ∷ []) ≡ Err TooManyCallers
+too_many_callers = refl
+
+-- too many words come first
+too_many_words : caller_line (record { cells = 1; callers = idle 64 }) (codes "caller" ∷ codes "x" ∷ []) ≡ Err WordCount
+too_many_words = refl
 
 -- what a ledger with so many rows answers after these jobs, the oldest first
 abbrev ledger_says : ℕ → List LedgerAct → LedgerAct → LedgerResult

@@ -46,7 +46,7 @@ cells_keep words t e =
     let some : 0 < cells = grind (arith, range.0) in
     let few : cells ≤ 64 = grind (arith, range.1) in
     let P : Asked → Type 0 = λ s. IsScript s in
-    subst P r.1 (record { some = some; cells = few; one = omega arith; few = omega arith; taken = tt })
+    subst P r.1 (record { some = some; cells = few; crowd = omega arith; few = omega arith; taken = tt })
 
 pub first_keeps : (line : List ℕ) (t : Asked) → spelled_line cells_line line ≡ Ok t → IsScript t
 first_keeps line t e = cells_keep (words_of line) t (spelled_ok cells_line line t e)
@@ -79,14 +79,14 @@ abbrev pub asked : ℕ → List (List Query) → Asked
 asked cells callers = record { cells = cells; callers = callers }
 
 -- a line `caller`
-caller_more : (cells : ℕ) (callers : List (List Query)) → IsScript (asked cells callers) → length callers ≡ 0 → IsScript (asked cells (callers ++ [] ∷ []))
-caller_more cells callers is none =
+caller_more : (cells : ℕ) (callers : List (List Query)) → IsScript (asked cells callers) → length callers < 64 → IsScript (asked cells (callers ++ [] ∷ []))
+caller_more cells callers is room =
     let sum = sum_by_push (length {A = Query}) callers [] in
     let len = length-append callers ([] ∷ []) in
     record {
       some = is.some;
       cells = is.cells;
-      one = omega (arith, len, none);
+      crowd = omega (arith, len, room);
       few = omega (arith, sum, is.few);
       taken = all_push (AllByRecursion (TakesBelow cells)) callers [] is.taken tt;
     }
@@ -94,9 +94,9 @@ caller_more cells callers is none =
 caller_keeps : (s t : Asked) (words : List (List ℕ)) → IsScript s → caller_line s words ≡ Ok t → IsScript t
 caller_keeps s t words is e =
     let r = given_ok (caller_causes s words) (asked s.cells (s.callers ++ [] ∷ [])) t e in
-    let none : length s.callers ≡ 0 = grind (arith, not-false _ r.0.1.0) in
+    let room : length s.callers < 64 = grind (arith, r.0.1.0) in
     let P : Asked → Type 0 = λ s. IsScript s in
-    subst P r.1 (caller_more s.cells s.callers is none)
+    subst P r.1 (caller_more s.cells s.callers is room)
 
 -- a query
 all_below : (cells : ℕ) (ns : List ℕ) → list_any (λ n. nat_le cells n) ns ≡ false → AllByRecursion (λ c. c < cells) ns
@@ -137,11 +137,11 @@ query_more cells callers q is some few below =
         let more = length-append last (q ∷ []) in
         let many = length-append front (last ∷ []) in
         let long = length-append front ((last ++ q ∷ []) ∷ []) in
-        let one : length (front ++ last ∷ []) ≤ 1 = is.one in
+        let crowd : length (front ++ last ∷ []) ≤ 64 = is.crowd in
         record {
           some = is.some;
           cells = is.cells;
-          one = omega (arith, many, long, one);
+          crowd = omega (arith, many, long, crowd);
           few = omega (arith, had, sum, more, few);
           taken = all_push (AllByRecursion (TakesBelow cells)) front (last ++ q ∷ []) taken.0 (all_push (TakesBelow cells) last q taken.1 below);
         }

@@ -5,7 +5,8 @@ use Rattle.std.specs.declared.result.Result.{Result}
 use Rattle.std.specs.List.{list_any, AllByRecursion}
 use Rattle.query_rules.specs.declared.query.Query.{Query}
 use Rattle.query_rules.specs.declared.query.Cause.{Cause}
-use Rattle.query_rules.specs.declared.query.Cause.TheVariants.{BadByte, Spacing, MissingCells, Unknown, WordCount, NotYet, NoCaller, BadNumber, CellRange, TooManyQueries}
+use Rattle.query_rules.specs.declared.query.Cause.TheVariants.{BadByte, Spacing, MissingCells, Unknown, WordCount, TooManyCallers, NoCaller, BadNumber, CellRange, TooManyQueries}
+use Rattle.query_rules.specs.declared.query.TheConstants.{MOST_CALLERS}
 use Rattle.query_rules.specs.declared.verb.Verb.{Verb}
 use Rattle.query_rules.specs.Verbs.{verb_named, verb_of, numbers_of, arity, cells_in, query_of, query_words}
 use Rattle.query_rules.specs.Words.{lines_of, words_of, number_of}
@@ -69,7 +70,7 @@ cells_line words = gives (first_cause (cells_causes words)) (record { cells = sl
 
 -- with a line `caller`, after the lines that say s
 abbrev pub caller_causes : Asked → List (List ℕ) → List (Bool × Cause)
-caller_causes s words = (not (length words == 1), WordCount) ∷ (not (length s.callers == 0), NotYet) ∷ []
+caller_causes s words = (not (length words == 1), WordCount) ∷ (nat_le MOST_CALLERS (length s.callers), TooManyCallers) ∷ []
 
 abbrev pub caller_line : Asked → List (List ℕ) → Result Asked Cause
 caller_line s words = gives (first_cause (caller_causes s words)) (record { cells = s.cells; callers = s.callers ++ [] ∷ [] })
@@ -124,7 +125,6 @@ TakesBelow cells q = AllByRecursion (λ c. c < cells) (cells_of q)
 pub record IsScript (s : Asked) : Type 0 where
   pub some : 0 < s.cells
   pub cells : s.cells ≤ 64
-  -- scripts with more callers aren't taken yet
-  pub one : length s.callers ≤ 1
+  pub crowd : length s.callers ≤ MOST_CALLERS
   pub few : sum_by length s.callers ≤ 1000000
   pub taken : AllByRecursion (AllByRecursion (TakesBelow s.cells)) s.callers

@@ -1,8 +1,12 @@
--- The script of the soak: so many queries of four callers on eight cells, and what they come to in the end.
-use Rattle.std.specs.Prelude.{ℕ, zero, suc, ◌+◌, ◌-◌, ◌*◌, ◌/◌, ◌%◌, ◌==◌, List, [], ◌∷◌, if◌then◌else◌}
+-- The script of the soak: so many queries of four callers on eight cells, what they come to in the end, and the text that tells it.
+use Rattle.std.specs.Prelude.{ℕ, zero, suc, ◌+◌, ◌-◌, ◌*◌, ◌/◌, ◌%◌, ◌==◌, List, [], ◌∷◌, ◌++◌, codes, if◌then◌else◌}
 use Rattle.query_rules.specs.declared.query.Query.{Query}
 use Rattle.query_rules.specs.declared.query.Query.TheVariants.{Get, Len, Add, Give}
+use Rattle.query_rules.specs.declared.query.Total.{Total}
+use Rattle.query_rules.specs.declared.query.Total.TheVariants as total
+use Rattle.query_rules.specs.declared.query.Totals.{Totals}
 use Rattle.query_rules.specs.Grammar.{Asked}
+use Rattle.query_rules.specs.Log.{number_line, totals_text, end_line}
 
 -- a query by its kind, 0 to 3
 abbrev pub soak_kind : ℕ → ℕ → ℕ → ℕ → Query
@@ -40,19 +44,9 @@ adds_to_maps j = if j / 4 % 4 == 1 then 1 + j % 7 else 0
 abbrev pub is_of_kind : ℕ → ℕ → ℕ
 is_of_kind kind j = if j / 4 % 4 == kind then 1 else 0
 
--- the counts of a run's replies, and the sums of all values of its maps and of its ledger at the end
-pub record Summary : Type 0 where
-  pub queries : ℕ
-  pub writes : ℕ
-  pub reads : ℕ
-  pub refused : ℕ
-  pub jobs : ℕ
-  pub sum : ℕ
-  pub ledger : ℕ
-
--- the summary of the soak
-abbrev pub soak_summary : ℕ → Summary
-soak_summary count = record {
+-- the totals of the soak, whatever the schedule
+abbrev pub soak_totals : ℕ → Totals
+soak_totals count = record {
   queries = count;
   writes = sum_below count (is_of_kind 1);
   reads = sum_below count (is_of_kind 0) + sum_below count (is_of_kind 2);
@@ -61,3 +55,13 @@ soak_summary count = record {
   sum = sum_below count adds_to_maps;
   ledger = sum_below count (is_of_kind 3);
 }
+
+-- the counts of replies, in the order of their lines
+abbrev pub counts_in : Totals → List (Total × ℕ)
+counts_in t = (total.Queries, t.queries) ∷ (total.Writes, t.writes) ∷ (total.Reads, t.reads) ∷ (total.Refused, t.refused) ∷ (total.Jobs, t.jobs) ∷ []
+
+-- what is written of a soak of so many queries that came to these totals
+unfoldable pub soak_text : ℕ → Totals → List ℕ
+soak_text count t =
+    number_line (codes "soak") count
+    ++ (totals_text (counts_in t) ++ (number_line (codes "sum") t.sum ++ (number_line (codes "ledger") t.ledger ++ end_line)))

@@ -224,6 +224,9 @@ pub enum Reply {
     },
 }
 
+/// The most callers that a script may have.
+pub const MOST_CALLERS: u64 = 64;
+
 /// Why a line of a script is refused.
 #[derive(Clone, Copy, Debug, PartialEq, Eq)]
 pub enum Cause {
@@ -237,8 +240,8 @@ pub enum Cause {
     Unknown,
     /// Too many words, or too few.
     WordCount,
-    /// A second caller. Scripts with several callers aren't taken yet.
-    NotYet,
+    /// A caller after the 64th.
+    TooManyCallers,
     /// A query before the first caller.
     NoCaller,
     /// A word in a number's place that is no number.
@@ -275,4 +278,17 @@ pub enum Total {
     Reads,
     Refused,
     Jobs,
+}
+
+/// What a run comes to: how many replies there are, and how many of each kind; and the sums of all
+/// values of its maps and of all accounts of its ledger at the end.
+#[derive(Clone, Copy, Debug, PartialEq, Eq)]
+pub struct Totals {
+    pub queries: u64,
+    pub writes: u64,
+    pub reads: u64,
+    pub refused: u64,
+    pub jobs: u64,
+    pub sum: u128,
+    pub ledger: u128,
 }

@@ -8,7 +8,7 @@ ghost use Rattle.query_rules.specs.History.{IsKindFor};
 ghost use Rattle.query_rules.specs.Log.{log_text, head_text, tables_line, spots_text, refused_text, refused_from, totals_text, total_line, end_line, spot_line, refused_line, asked_at, told_at, placed_count, IsSpot, IsOrder};
 
 use crate::log_line::{Line, write_answer, write_number};
-use crate::{Callers, Outcome, Script, Totals};
+use crate::{Callers, Counts, Outcome, Script};
 use ql_base::{Failed, Sink};
 use query_rules::{Query, Reply, Spot, Total};
 
@@ -196,8 +196,8 @@ fn write_total<K: Sink>(sink: &mut K, total: Total, n: u64) -> Result<(), Failed
     }
 }
 
-// Writes a line for each total.
-fn write_totals<K: Sink>(sink: &mut K, totals: &[(Total, u64)]) -> Result<(), Failed>
+/// Writes a line for each total.
+pub fn write_totals<K: Sink>(sink: &mut K, totals: &[(Total, u64)]) -> Result<(), Failed>
     ensures bytes { Writes (K.written sink.old) (K.written sink.new) result (totals_text totals.now) }
     ensures cause { HasCause (K.faults sink.old) (K.faults sink.new) result }
 {
@@ -209,8 +209,9 @@ fn write_totals<K: Sink>(sink: &mut K, totals: &[(Total, u64)]) -> Result<(), Fa
     Ok(())
 }
 
+/// Writes the last line.
 #[tactic(auto, unfolding(query_rules::specs::Log::end_line))]
-fn write_end<K: Sink>(sink: &mut K) -> Result<(), Failed>
+pub fn write_end<K: Sink>(sink: &mut K) -> Result<(), Failed>
     ensures bytes { Writes (K.written sink.old) (K.written sink.new) result end_line }
     ensures cause { HasCause (K.faults sink.old) (K.faults sink.new) result }
 {
@@ -218,7 +219,7 @@ fn write_end<K: Sink>(sink: &mut K) -> Result<(), Failed>
 }
 
 // Writes the totals and the end.
-fn write_close<K: Sink>(sink: &mut K, totals: &Totals) -> Result<(), Failed>
+fn write_close<K: Sink>(sink: &mut K, totals: &Counts) -> Result<(), Failed>
     ensures bytes { Writes (K.written sink.old) (K.written sink.new) result (totals_text (totals_in totals.now) ++ end_line) }
     ensures cause { HasCause (K.faults sink.old) (K.faults sink.new) result }
 {
@@ -241,7 +242,7 @@ fn write_later<K: Sink>(
     callers: &Callers,
     outcome: &Outcome,
     jobs: &[Spot],
-    totals: &Totals,
+    totals: &Counts,
 ) -> Result<(), Failed>
     requires kinds { AllZip (AllZip IsKindFor) callers.now outcome.now }
     requires spots { AllByRecursion (IsSpot callers.now outcome.now) jobs.now }

@@ -312,3 +312,15 @@ pub fn write_number<K: Sink>(sink: &mut K, name: &[u8], n: u64) -> Result<(), Fa
     line.number(n);
     line.write(sink)
 }
+
+/// Writes a line of a name and a sum, which may be twice as wide as a number.
+#[tactic(auto, unfolding(query_rules::specs::Log::number_line))]
+pub fn write_sum<K: Sink>(sink: &mut K, name: &[u8], n: u128) -> Result<(), Failed>
+    requires { length name.now ≤ 20 }
+    ensures bytes { Writes (K.written sink.old) (K.written sink.new) result (number_line name.now n) }
+    ensures cause { HasCause (K.faults sink.old) (K.faults sink.new) result }
+{
+    let mut line = Line::new(name);
+    line.wide_number(n);
+    line.write(sink)
+}

@@ -47,11 +47,11 @@ impl Outcome {
     }
 
     /// The totals of all replies, by going over them once.
-    pub fn totals(&self) -> Totals
+    pub fn totals(&self) -> Counts
         requires { sum_by length self.now < 2 ^ 64 }
         ensures { (t : Total) → total_in t result ≡ total_of t self.now }
     {
-        let mut totals = Totals::new();
+        let mut totals = Counts::new();
         totals.count_lists(&self.lists);
         totals
     }
@@ -59,7 +59,7 @@ impl Outcome {
 
 /// How many replies there are, and how many of each kind.
 #[derive(Clone, Copy, Debug)]
-pub struct Totals {
+pub struct Counts {
     pub queries: u64,
     pub writes: u64,
     pub reads: u64,
@@ -68,13 +68,13 @@ pub struct Totals {
     ghost adds_up: { writes + reads + refused + jobs ≡ queries },
 }
 
-impl Totals {
+impl Counts {
     ghost use Rattle.query_text.specs.Counts.{total_in};
 
     fn new() -> Self
         ensures { (t : Total) → total_in t result ≡ 0 }
     {
-        Totals {
+        Counts {
             queries: 0,
             writes: 0,
             reads: 0,

@@ -60,7 +60,7 @@ fn cause_word(cause: Cause) -> &'static [u8]
         Cause::MissingCells => b"MissingCells",
         Cause::Unknown => b"Unknown",
         Cause::WordCount => b"WordCount",
-        Cause::NotYet => b"NotYet",
+        Cause::TooManyCallers => b"TooManyCallers",
         Cause::NoCaller => b"NoCaller",
         Cause::BadNumber => b"BadNumber",
         Cause::CellRange => b"CellRange",

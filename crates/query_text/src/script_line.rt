@@ -9,7 +9,7 @@ use crate::Callers;
 use crate::number::numbers;
 use crate::words::spelled_words;
 use ql_base::NoMemory;
-use query_rules::{Cause, Verb};
+use query_rules::{Cause, MOST_CALLERS, Verb};
 
 /// Why a line was not taken.
 #[derive(Clone, Copy, Debug, PartialEq, Eq)]
@@ -70,8 +70,8 @@ fn caller_line(cells: u64, callers: &mut Callers, words: &[&[u8]]) -> Result<(),
     if words.len() != 1 {
         return Err(LineFault::Bad(Cause::WordCount));
     }
-    if callers.count() != 0 {
-        return Err(LineFault::Bad(Cause::NotYet));
+    if callers.count() >= MOST_CALLERS {
+        return Err(LineFault::Bad(Cause::TooManyCallers));
     }
     callers.add_caller()?;
     Ok(())

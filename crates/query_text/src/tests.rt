@@ -1,6 +1,7 @@
 //! What no clause says: that parsing succeeds with ample memory, and worked examples.
-use crate::{Cause, ParseFault, parse_script};
-use std::alloc::AllocError;
+use crate::{Cause, ParseFault, Totals, parse_script, write_soak};
+use ql_base::MemSink;
+use std::alloc::{AllocError, Global};
 
 #[test]
 fn a_script_is_read(rt: HostRuntime) -> Result<(), AllocError> {
@@ -21,4 +22,55 @@ fn the_first_bad_line_is_blamed(rt: HostRuntime) {
         cause: Cause::BadNumber,
     };
     assert_eq!(rt; fault, Some(expected));
+}
+
+// The text of one cell and so many callers that ask nothing.
+fn idle_callers(alloc: Global, callers: u64) -> Result<Vec<u8>, AllocError> {
+    let mut text = Vec::new(alloc);
+    text.extend_from_slice(b"cells 1")?;
+    for _ in 0..callers {
+        text.extend_from_slice(b"\ncaller")?;
+    }
+    Ok(text)
+}
+
+#[test]
+fn the_64th_caller_is_taken(rt: HostRuntime) -> Result<(), AllocError> {
+    let Ok(script) = parse_script(rt.alloc(), &idle_callers(rt.alloc(), 64)?) else {
+        return Err(AllocError);
+    };
+    assert_eq!(rt; script.callers().count(), 64);
+    Ok(())
+}
+
+#[test]
+fn the_65th_caller_is_refused(rt: HostRuntime) -> Result<(), AllocError> {
+    let fault = parse_script(rt.alloc(), &idle_callers(rt.alloc(), 65)?).err();
+    let expected = ParseFault::Refused {
+        line: 66,
+        cause: Cause::TooManyCallers,
+    };
+    assert_eq!(rt; fault, Some(expected));
+    Ok(())
+}
+
+#[test]
+fn a_soak_is_told(rt: HostRuntime) -> Result<(), AllocError> {
+    let totals = Totals {
+        queries: 16,
+        writes: 4,
+        reads: 8,
+        refused: 0,
+        jobs: 4,
+        sum: 18_446_744_073_709_551_619,
+        ledger: 5,
+    };
+    let Ok(mut sink) = MemSink::with_room(rt.alloc(), 200, Vec::new(rt.alloc())) else {
+        return Err(AllocError);
+    };
+    assert_eq!(rt; write_soak(&mut sink, 16, &totals), Ok(()));
+    let text =
+        b"soak 16\nqueries 16\nwrites 4\nreads 8\nrefused 0\njobs 4\nsum 18446744073709551619\nledger 5\nend\n";
+    assert_eq!(rt; sink.written(), text.as_slice());
+    Ok(())
 }

@@ -6,7 +6,7 @@
 
 use ql_base::OpenGate;
 use ql_std::{StdClocks, StdSink, StdSource};
-use server_run::serve_main;
+use server_run::{Ended, serve_main};
 use std::alloc::AllocError;
 use std::env::Env;
 use std::io::{BufWriter, ErrorKind};
@@ -49,6 +49,7 @@ fn main(rt: HostRuntime) -> ExitCode {
     let mut source = StdSource::new(rt.reader());
     let mut sink = StdSink::new(output);
     let clocks = StdClocks::new(&rt);
+    let mut ended = Ended::new();
     let status = serve_main(
         &rt,
         rt.alloc(),
@@ -57,6 +58,7 @@ fn main(rt: HostRuntime) -> ExitCode {
         &mut sink,
         &clocks,
         &OpenGate,
+        &mut ended,
     );
     // A log or a refusal counts as written once the buffer has let it go.
     match sink.flush() {

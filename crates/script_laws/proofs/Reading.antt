@@ -6,7 +6,7 @@ use Rattle.std.proofs.lemmas.List.Sums.{sum_by-cons, sum_by_push}
 use Rattle.std.specs.List.{AllByRecursion, list_any}
 use Rattle.query_rules.specs.declared.query.Query.{Query}
 use Rattle.query_rules.specs.declared.query.Cause.{Cause}
-use Rattle.query_rules.specs.declared.query.Cause.TheVariants.{BadByte, Spacing, MissingCells, WordCount, NotYet, NoCaller, BadNumber, CellRange, TooManyQueries}
+use Rattle.query_rules.specs.declared.query.Cause.TheVariants.{BadByte, Spacing, MissingCells, WordCount, TooManyCallers, NoCaller, BadNumber, CellRange, TooManyQueries}
 use Rattle.query_rules.specs.Verbs.{arity, cells_in, query_of, verb_of, numbers_of, query_words}
 use Rattle.query_rules.specs.Words.{words_of, lines_of}
 use Rattle.query_rules.specs.Grammar.{Asked, TakesBelow, first_cause, gives, with_query, named_line, later_words, later_lines, spelled_line, cells_line, all_lines, said_by, script_lines, is_misspaced}
@@ -40,10 +40,10 @@ cells_said cells some few =
     ap says (words_to_numbers (cells ∷ []) (omega (arith, few), tt)) ∙ all_pass (tests (Some (cells ∷ []))) (asked cells []) (refl, (refl, (refl, (ranged, tt))))
 
 -- a line `caller`
-caller_said : (cells : ℕ) (callers : List (List Query)) → length callers < 1 → later_words (asked cells callers) (codes "caller" ∷ []) ≡ Ok (asked cells (callers ++ [] ∷ []))
+caller_said : (cells : ℕ) (callers : List (List Query)) → length callers < 64 → later_words (asked cells callers) (codes "caller" ∷ []) ≡ Ok (asked cells (callers ++ [] ∷ []))
 caller_said cells callers few =
-    let free : not (length callers == 0) ≡ false = grind (arith, few) in
-    all_pass ((false, WordCount) ∷ (not (length callers == 0), NotYet) ∷ []) (asked cells (callers ++ [] ∷ [])) (refl, (free, tt))
+    let free : nat_le 64 (length callers) ≡ false = grind (arith, few) in
+    all_pass ((false, WordCount) ∷ (nat_le 64 (length callers), TooManyCallers) ∷ []) (asked cells (callers ++ [] ∷ [])) (refl, (free, tt))
 
 -- a query
 all_in_range : (cells : ℕ) (ns : List ℕ) → AllByRecursion (λ n. n < cells) ns → list_any (λ n. nat_le cells n) ns ≡ false
@@ -95,7 +95,7 @@ caller_lines queries = (codes "caller" ∷ []) ∷ map query_words queries
 
 -- the callers behind those that are read
 callers_read : (cells : ℕ) (done callers : List (List Query)) (n : ℕ)
-    → length done + length callers ≤ 1 → sum_by length done + sum_by length callers ≤ 1000000 → AllByRecursion (AllByRecursion (TakesBelow cells)) callers → AllByRecursion (AllByRecursion IsQuery) callers
+    → length done + length callers ≤ 64 → sum_by length done + sum_by length callers ≤ 1000000 → AllByRecursion (AllByRecursion (TakesBelow cells)) callers → AllByRecursion (AllByRecursion IsQuery) callers
     → later_lines (asked cells done) n (map between_spaces (flat_map caller_lines callers)) ≡ Ok (asked cells (done ++ callers))
 callers_read cells done [] n many few below fits = ap (λ c. Ok (asked cells c)) (sym (append-nil done))
 callers_read cells done (queries ∷ callers) n many few below fits =
@@ -116,7 +116,7 @@ lines_read s is =
     let first : spelled_line cells_line (between_spaces (codes "cells" ∷ decimal s.cells ∷ [])) ≡ Ok (asked s.cells []) =
     line_judged cells_line (codes "cells") (decimal s.cells ∷ []) (cells_plain s.cells (omega (arith, script.cells))) ∙ cells_said s.cells script.some script.cells in
     ap (λ r. elim r [ Ok t ↦ later_lines t 1 lines | Err cause ↦ Err (1, cause) ]) first
-    ∙ callers_read s.cells [] s.callers 1 (omega (arith, script.one)) (omega (arith, script.few)) script.taken is.fits
+    ∙ callers_read s.cells [] s.callers 1 (omega (arith, script.crowd)) (omega (arith, script.few)) script.taken is.fits
 
 -- the lines of the text
 abbrev IsPlainLine : List (List ℕ) → Type 0

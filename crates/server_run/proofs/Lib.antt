@@ -1,6 +1,6 @@
+mod Asking
 mod Counts
-mod HistoryLaws
-mod JobLaws
+mod Crowds
+mod Numbers
 mod Orders
 mod Refusals
-mod TurnedLaws

@@ -3,8 +3,9 @@ use Rattle.std.proofs.Common.{◌≡◌, ℕ, suc, List, [], ◌∷◌, ◌++◌
 use Rattle.std.proofs.lemmas.List.Sums.{sum_by-cons}
 use Rattle.std.proofs.Math.Seq.{take-append_seam, drop-append_seam, drop-cons}
 use Rattle.std.specs.Prelude.{IsPermutation, IsSorted}
-use Rattle.std.specs.List.{AllByRecursion}
+use Rattle.std.specs.List.{AllByRecursion, AllZip}
 use Rattle.std.proofs.lemmas.List.Sorted.{length_permutation}
+use Rattle.query_rules.specs.declared.query.Query.{Query}
 use Rattle.query_rules.specs.declared.query.Reply.{Reply}
 use Rattle.query_rules.specs.declared.query.Reply.TheVariants.{Placed, Busy, Late, Job}
 use Rattle.query_rules.specs.declared.query.Spot.{Spot}
@@ -14,9 +15,8 @@ use Rattle.query_rules.specs.Grammar.{Asked}
 use Rattle.query_rules.specs.Numbers.{IsNumber, IsReply}
 use Rattle.query_rules.specs.Log.{spot_cmp, key_in, spots_with, spots_of, spots_from, placed_count, IsOrderOf, IsOrder, IsLogOf, log_text}
 use Rattle.query_text.proofs.Spots.{maps_count}
-use Rattle.query_rules.specs.History.{IsHistory}
+use Rattle.query_rules.specs.History.{AnswersEachOnce, IsHistory, IsKindFor}
 use Rattle.script_laws.specs.Spelling.{IsWritable}
-use Rattle.server_run.proofs.HistoryLaws.{kinds_all}
 
 -- the spots of the map lines were sorted, then those of the job lines behind them
 pub order_made : (told : List (List Reply)) (maps all order : List Spot) (placed : ℕ) → IsOrderOf section.Maps told maps → all ≡ maps ++ spots_of section.Jobs 0 told → placed ≡ length maps
@@ -30,6 +30,16 @@ order_made told maps all order placed first is at front each sorted =
       maps = subst (λ n. IsOrderOf section.Maps told (take n order)) count (subst (λ (l : List Spot). IsOrderOf section.Maps told l) (sym before) first);
       jobs = subst (λ n. IsOrderOf section.Jobs told (drop n order)) count jobs;
     }
+
+-- a reply's kind by its caller's query
+kinds_each : (callers : List (List Query)) (told : List (List Reply)) → AllZip AnswersEachOnce callers told → AllZip (AllZip IsKindFor) callers told
+kinds_each [] [] h = tt
+kinds_each [] (rs ∷ told) h = absurd h
+kinds_each (qs ∷ callers) [] h = absurd h
+kinds_each (qs ∷ callers) (rs ∷ told) h = (h.0.each, kinds_each callers told h.1)
+
+pub kinds_all : (rows : ℕ) (callers : List (List Query)) (told : List (List Reply)) → IsHistory rows callers told → AllZip (AllZip IsKindFor) callers told
+kinds_all rows callers told h = kinds_each callers told h.once
 
 -- the log of a history is one that can be read
 pub log_of : (s : Asked) (rows : ℕ) (told : List (List Reply)) (order : List Spot) → IsWritable s → IsNumber rows → AllByRecursion (AllByRecursion IsReply) told → IsHistory rows s.callers told → IsOrder told order → IsLogOf s rows told (log_text s rows told order)

@@ -1,3 +1,3 @@
-pub mod Alone
+pub mod Crowd
 pub mod Rooms
 pub mod Serve

@@ -10,6 +10,12 @@ use Rattle.query_rules.specs.declared.query.Cause.{Cause}
 use Rattle.query_rules.specs.Grammar.{Asked, said_by}
 use Rattle.query_rules.specs.History.{IsHistory}
 use Rattle.query_rules.specs.Log.{IsLogOf, refused_at, refused_length}
+use Rattle.hall.specs.Closing.{closing_view}
+use Rattle.waiter_chain.specs.declared.make.Retired.{Retired}
+use Rattle.query_cells.specs.Asked.{LedgerParcel, LedgerRun}
+use Rattle.run_laws.specs.Lists.{all_told, all_answers}
+use Rattle.command_line.specs.declared.options.Options.{Options}
+use Rattle.server_run.specs.declared.ended.Ended.{Ended}
 
 -- the most bytes that a script may have
 abbrev pub limit : ℕ
@@ -35,26 +41,43 @@ pub record Reads (left left_new : Option (List ℕ)) (script : Asked) : Type 0 w
   pub short : length bytes ≤ limit
   pub end : IsAtEnd left_new
 
+-- there is one, and it is such
+abbrev pub Holds : {X : Type 0} → Option X → (X → Type 0) → Type 0
+Holds (Some x) F = F x
+Holds None F = ⊥
+
+-- the jobs and answers that the closing pass of a lock listed
+abbrev pub own_in : Retired LedgerParcel → List LedgerRun
+own_in r = r.seat.value.me.0.own
+
+-- The closes of a run of this script under these options gave this, and the lists of the closing passes are exactly the replies of this outcome, each under its caller and index.
+pub record EndedAs (script : Asked) (o : Options) (told : List (List Reply)) (e : Ended) : Type 0 where
+  pub hall : Holds e.hall (λ closed. (closed.locks ≡ script.cells) × (closed.slots ≡ o.slots) × (closed.policy ≡ o.policy) × ((closing_view closed).part.told ≡ all_told 0 script.callers told))
+  pub dist : Holds e.dist (λ retired. (retired.combine ≡ o.combine) × (own_in retired ≡ all_answers 0 script.callers told))
+
 -- Status 0: what was written is exactly the printed form of one history of the script that the input asks.
 -- Each caller's queries stand in it once, in its order, with the replies of plain maps and of a plain ledger that one thread changes, and the totals count them.
+-- The maps stood behind a hall's locks and the ledger behind a lock of its own, and the closes of both tell the same replies.
 -- A source that tells nothing leaves open which script it is.
-pub record WritesOneHistory (left left_new written written_new : Option (List ℕ)) (rows : ℕ) : Type 0 where
+pub record WritesOneHistory (left left_new written written_new : Option (List ℕ)) (o : Options) (e : Ended) : Type 0 where
   pub script : Asked
   pub read : Reads left left_new script
   pub told : List (List Reply)
   pub text : List ℕ
-  pub log : IsLogOf script rows told text
-  pub history : IsHistory rows script.callers told
+  pub log : IsLogOf script o.rows told text
+  pub history : IsHistory o.rows script.callers told
+  pub ended : EndedAs script o told e
   pub grew : Appends written written_new text
 
 -- Status 5: a front of such a text was written.
-pub record WritesFront (left left_new written written_new : Option (List ℕ)) (rows : ℕ) : Type 0 where
+pub record WritesFront (left left_new written written_new : Option (List ℕ)) (o : Options) (e : Ended) : Type 0 where
   pub script : Asked
   pub read : Reads left left_new script
   pub told : List (List Reply)
   pub text : List ℕ
-  pub log : IsLogOf script rows told text
-  pub history : IsHistory rows script.callers told
+  pub log : IsLogOf script o.rows told text
+  pub history : IsHistory o.rows script.callers told
+  pub ended : EndedAs script o told e
   pub grew : AppendsFront written written_new text
 
 -- more bytes came than a script may have, or they ask no script

@@ -1,6 +1,6 @@
 //! What no clause says: that the gate is called once ahead of each query and once behind it, with
 //! its caller and its index, in their order.
-use crate::serve_main;
+use crate::{Ended, serve_main};
 use ql_base::{Gate, ListClocks, MemSink, MemSource};
 use std::alloc::{AllocError, Global};
 use std::sync::atomic::{AtomicBool, AtomicU64, Ordering};
@@ -68,7 +68,17 @@ fn the_gate_stands_round_each_query(rt: HostRuntime) -> Result<(), AllocError> {
     };
     let clocks = ListClocks::new(&[0]);
     let gate = RecordGate::with_room(alloc, 8)?;
-    let status = serve_main(&rt, alloc, &words, &mut source, &mut sink, &clocks, &gate);
+    let mut ended = Ended::new();
+    let status = serve_main(
+        &rt,
+        alloc,
+        &words,
+        &mut source,
+        &mut sink,
+        &clocks,
+        &gate,
+        &mut ended,
+    );
     assert_eq!(rt; status, 0);
     assert_eq!(rt; gate.made.load(Ordering::SeqCst), 8);
     for (call, cell) in gate.calls.iter().enumerate() {

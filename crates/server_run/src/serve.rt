@@ -1,5 +1,5 @@
 // The top call.
-ghost use Rattle.std.specs.Prelude.{◌≡◌, ◌↔◌, ◌+◌, ◌⊎◌, Some, None, IfOk, IfSome, IfErr, IsErrOf, OnOk, IsSome, List, ℕ};
+ghost use Rattle.std.specs.Prelude.{◌≡◌, ◌+◌, ◌⊎◌, None, IfOk, IfSome, IfErr, IsErrOf, OnOk, IsSome, List, ℕ};
 ghost use Rattle.std.specs.Io.KnownBytes.{Appends};
 ghost use Rattle.ql_base.specs.Bytes.{AppendsFront, TakesUpTo};
 ghost use Rattle.ql_base.specs.Causes.{Rose};
@@ -7,13 +7,14 @@ ghost use Rattle.script_laws.specs.Spelling.{IsWritable};
 ghost use Rattle.query_rules.specs.declared.query.Reply.{Reply};
 ghost use Rattle.query_rules.specs.History.{IsHistory};
 ghost use Rattle.query_rules.specs.Log.{IsLogOf};
-ghost use Rattle.server_run.specs.Serve.{limit, Reads, WritesOneHistory, WritesFront, TellsRefusal, WritesRefusal, WritesRefusalFront, Completes, Refuses};
+ghost use Rattle.server_run.specs.Serve.{limit, Reads, EndedAs, WritesOneHistory, WritesFront, TellsRefusal, WritesRefusal, WritesRefusalFront, Completes, Refuses};
 ghost use Rattle.query_text.specs.Refusals.{refusal_text};
 ghost use Rattle.query_text.specs.declared.refusal.Refusal.{Refusal};
-ghost use Rattle.command_line.specs.Form.{IsWithinLimits, options_in};
+ghost use Rattle.command_line.specs.Form.{IsWithinLimits, run_in as options_in};
 
+use crate::ended::Ended;
 use crate::run::run_script;
-use command_line::{Options, WordsFault, check_words};
+use command_line::{Options, WordsFault, check_run as check_words};
 use ql_base::{Clocks, Gate, ReadFault, Sink, Source, read_to_end};
 use query_text::{ParseFault, Refusal, Script, parse_script, write_log, write_refusal};
 use std::alloc::Global;
@@ -73,7 +74,7 @@ fn read_script<S: Source>(alloc: Global, source: &mut S) -> Result<Script, Scrip
 }
 
 // Asks the queries of a script, and writes the log.
-fn answer<R: Wait, K: Sink, T: Clocks, G: Gate>(
+fn answer<R: Threads + Wait + Sync, K: Sink, T: Clocks, G: Gate>(
     rt: &R,
     alloc: Global,
     script: &Script,
@@ -81,17 +82,19 @@ fn answer<R: Wait, K: Sink, T: Clocks, G: Gate>(
     sink: &mut K,
     clocks: &T,
     gate: &G,
+    ended: &mut Ended,
 ) -> Result<(), LogFault>
     requires limits { IsWithinLimits options.now }
     requires script { IsWritable script.now }
-    ensures written { OnOk result ((told : List (List Reply)) × (text : List ℕ) × IsLogOf script.now options.now.rows told text × IsHistory options.now.rows script.now.callers told × Appends (K.written sink.old) (K.written sink.new) text) }
-    ensures cut { IsErrOf result LogFault.Write → (told : List (List Reply)) × (text : List ℕ) × IsLogOf script.now options.now.rows told text × IsHistory options.now.rows script.now.callers told × AppendsFront (K.written sink.old) (K.written sink.new) text }
+    ensures written { OnOk result ((told : List (List Reply)) × (text : List ℕ) × IsLogOf script.now options.now.rows told text × IsHistory options.now.rows script.now.callers told × EndedAs script.now options.now told ended.new × Appends (K.written sink.old) (K.written sink.new) text) }
+    ensures cut { IsErrOf result LogFault.Write → (told : List (List Reply)) × (text : List ℕ) × IsLogOf script.now options.now.rows told text × IsHistory options.now.rows script.now.callers told × EndedAs script.now options.now told ended.new × AppendsFront (K.written sink.old) (K.written sink.new) text }
     ensures fault { IsErrOf result LogFault.Write → Rose (K.faults sink.old) (K.faults sink.new) }
-    ensures memory { IsErrOf result LogFault.NoMemory → sink.new ≡ sink.old }
+    ensures memory { IsErrOf result LogFault.NoMemory → (sink.new ≡ sink.old) × (ended.new ≡ ended.old) }
 {
     let Ok(ran) = run_script(rt, alloc, script, options, clocks, gate) else {
         return Err(LogFault::NoMemory);
     };
+    *ended = ran.ended;
     match write_log(sink, script, options.rows, &ran.outcome, &ran.order) {
         Ok(()) => Ok(()),
         Err(_) => Err(LogFault::Write),
@@ -117,7 +120,8 @@ fn refuse<K: Sink>(sink: &mut K, refusal: Refusal) -> u8
 /// The steps come in this order: the words, the reading, its length, the grammar, the memory of all
 /// that the queries need, the queries, the writing. Want of memory may end it at each step before
 /// the first query. The clocks are asked where a query with a deadline is refused, and the runtime
-/// where one waits for a lock. The call holds what it promises if it returns.
+/// where one waits for a lock. What the closes of the hall and of the ledger's lock gave stands in
+/// `ended` at status 0, and at status 5 where a log was cut; else `ended` stays empty. The call holds what it promises if it returns.
 pub fn serve_main<R: Threads + Wait + Sync, S: Source, K: Sink, T: Clocks, G: Gate>(
     rt: &R,
     alloc: Global,
@@ -126,9 +130,13 @@ pub fn serve_main<R: Threads + Wait + Sync, S: Source, K: Sink, T: Clocks, G: Ga
     sink: &mut K,
     clocks: &T,
     gate: &G,
+    ended: &mut Ended,
 ) -> u8
-    // Whatever the schedule, status 0 has written exactly the printed form of one history.
-    ensures history { result ≡ 0 → IfSome (options_in words.now) (λ o. WritesOneHistory (S.left source.old) (S.left source.new) (K.written sink.old) (K.written sink.new) o.rows) }
+    requires ended { (ended.old.hall ≡ None) × (ended.old.dist ≡ None) }
+
+    // Whatever the schedule, status 0 has written exactly the printed form of one history, which the
+    // closes of this run tell too.
+    ensures history { result ≡ 0 → IfSome (options_in words.now) (λ o. WritesOneHistory (S.left source.old) (S.left source.new) (K.written sink.old) (K.written sink.new) o ended.new) }
 
     // Each other status has its cause.
     ensures usage { result ≡ 2 → options_in words.now ≡ None }
@@ -137,8 +145,8 @@ pub fn serve_main<R: Threads + Wait + Sync, S: Source, K: Sink, T: Clocks, G: Ga
     ensures read_fault { result ≡ 4 → Rose (S.faults source.old) (S.faults source.new) }
     ensures write_fault { result ≡ 5 → Rose (K.faults sink.old) (K.faults sink.new) }
     ensures cut { result ≡ 5 →
-        IfSome (options_in words.now) (λ o. WritesFront (S.left source.old) (S.left source.new) (K.written sink.old) (K.written sink.new) o.rows)
-        ⊎ WritesRefusalFront (S.left source.old) (K.written sink.old) (K.written sink.new) }
+        IfSome (options_in words.now) (λ o. WritesFront (S.left source.old) (S.left source.new) (K.written sink.old) (K.written sink.new) o ended.new)
+        ⊎ (WritesRefusalFront (S.left source.old) (K.written sink.old) (K.written sink.new) × (ended.new ≡ ended.old)) }
     ensures known { (result ≡ 0) ⊎ (result ≡ 2) ⊎ (result ≡ 3) ⊎ (result ≡ 4) ⊎ (result ≡ 5) ⊎ (result ≡ 6) }
 
     // With words that ask for a run, bytes that are accepted are answered, and others are refused.
@@ -148,6 +156,9 @@ pub fn serve_main<R: Threads + Wait + Sync, S: Source, K: Sink, T: Clocks, G: Ga
     // Nothing is written at the other statuses, and at status 2 nothing is read.
     ensures silent { (result ≡ 2) ⊎ (result ≡ 4) ⊎ (result ≡ 6) → sink.new ≡ sink.old }
     ensures unread { result ≡ 2 → source.new ≡ source.old }
+
+    // What the closes of a run gave is handed out where there was one.
+    ensures untouched { (result ≡ 2) ⊎ (result ≡ 3) ⊎ (result ≡ 4) ⊎ (result ≡ 6) → ended.new ≡ ended.old }
 
     // Reading stops once one byte more came than a script may have.
     ensures counted { TakesUpTo (S.left source.old) (S.left source.new) (limit + 1) }
@@ -163,7 +174,7 @@ pub fn serve_main<R: Threads + Wait + Sync, S: Source, K: Sink, T: Clocks, G: Ga
         Err(ScriptFault::Refused(refusal)) => return refuse(sink, refusal),
         Err(ScriptFault::NoMemory) => return NO_MEMORY,
     };
-    match answer(rt, alloc, &script, &options, sink, clocks, gate) {
+    match answer(rt, alloc, &script, &options, sink, clocks, gate, ended) {
         Ok(()) => DONE,
         Err(LogFault::Write) => WRITE_FAULT,
         Err(LogFault::NoMemory) => NO_MEMORY,

@@ -2,7 +2,7 @@
 //! cut by a failed write is cut at a line's end.
 ghost use Rattle.std.specs.Prelude.{Some};
 
-use crate::serve_main;
+use crate::{Ended, serve_main};
 use ql_base::{Failed, ListClocks, MemSink, MemSource, OpenGate, Sink};
 use std::alloc::{AllocError, Global};
 use std::sync::Wait;
@@ -57,6 +57,7 @@ fn run<R: Threads + Wait + Sync + AllocGlobal>(
         has_other: false,
     };
     let clocks = ListClocks::new(&[0]);
+    let mut ended = Ended::new();
     let status = serve_main(
         rt,
         alloc,
@@ -65,6 +66,7 @@ fn run<R: Threads + Wait + Sync + AllocGlobal>(
         &mut sink,
         &clocks,
         &OpenGate,
+        &mut ended,
     );
     Ok((status, sink))
 }

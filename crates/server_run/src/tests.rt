@@ -3,7 +3,7 @@ ghost use Rattle.std.specs.List.{AllByRecursion};
 ghost use Rattle.query_rules.specs.Grammar.{TakesBelow};
 ghost use Rattle.query_log.specs.Plain.{cell_count};
 
-use crate::{Options, Policy, RunMode, run_script, serve_main};
+use crate::{Ended, Options, Policy, RunMode, run_script, serve_main};
 use ql_base::{Gate, ListClocks, MemSink, MemSource, NoMemory, OpenGate};
 use query_log::PlainMaps;
 use query_text::{Query, Reply, Said, parse_script};
@@ -28,7 +28,17 @@ fn run<R: Threads + Wait + Sync + AllocGlobal>(
         return Err(AllocError);
     };
     let clocks = ListClocks::new(&[0]);
-    let status = serve_main(rt, alloc, words, &mut source, &mut sink, &clocks, &OpenGate);
+    let mut ended = Ended::new();
+    let status = serve_main(
+        rt,
+        alloc,
+        words,
+        &mut source,
+        &mut sink,
+        &clocks,
+        &OpenGate,
+        &mut ended,
+    );
     Ok((status, sink.written().to_vec(alloc)?))
 }
 
@@ -151,7 +161,17 @@ fn no_query_is_asked_where_memory_is_refused(rt: HostRuntime) {
     let gate = CountGate {
         asked: AtomicU64::new(0),
     };
-    let status = serve_main(&rt, alloc, &words, &mut source, &mut sink, &clocks, &gate);
+    let mut ended = Ended::new();
+    let status = serve_main(
+        &rt,
+        alloc,
+        &words,
+        &mut source,
+        &mut sink,
+        &clocks,
+        &gate,
+        &mut ended,
+    );
     let asked = gate.asked.load(Ordering::SeqCst);
     if status == 6 {
         assert_eq!(rt; asked, 0);

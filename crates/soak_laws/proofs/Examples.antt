@@ -1,7 +1,7 @@
 -- The soak at worked examples: each holds by computation.
 use Rattle.std.proofs.Common.{◌≡◌, [], ◌∷◌, refl}
 use Rattle.query_rules.specs.declared.query.Query.TheVariants.{Get, Add, Len, Give}
-use Rattle.query_rules.specs.Soak.{soak_callers, soak_from, soak_query, soak_summary, sum_below}
+use Rattle.query_rules.specs.Soak.{soak_callers, soak_from, soak_query, soak_totals, sum_below}
 
 -- query 5 is the second of caller 1, and query 37 its tenth
 second : soak_query 5 ≡ Add 1 6 6
@@ -22,10 +22,10 @@ none : soak_callers 0 ≡ [] ∷ [] ∷ [] ∷ [] ∷ []
 unfolding soak_from
 none = refl
 
-one : soak_summary 1 ≡ record { queries = 1; writes = 0; reads = 1; refused = 0; jobs = 0; sum = 0; ledger = 0 }
+one : soak_totals 1 ≡ record { queries = 1; writes = 0; reads = 1; refused = 0; jobs = 0; sum = 0; ledger = 0 }
 unfolding sum_below
 one = refl
 
-sixteen : soak_summary 16 ≡ record { queries = 16; writes = 4; reads = 8; refused = 0; jobs = 4; sum = 19; ledger = 4 }
+sixteen : soak_totals 16 ≡ record { queries = 16; writes = 4; reads = 8; refused = 0; jobs = 4; sum = 19; ledger = 4 }
 unfolding sum_below
 sixteen = refl

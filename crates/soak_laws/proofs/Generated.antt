@@ -4,8 +4,8 @@ use Rattle.std.proofs.lemmas.Bool.{eqb-false}
 use Rattle.std.specs.List.{AllByRecursion}
 use Rattle.query_rules.specs.declared.query.Query.{Query}
 use Rattle.query_rules.specs.declared.query.Query.TheVariants.{Get, Len, Add, Give}
-use Rattle.query_rules.specs.Soak.{soak_kind, soak_query, soak_from, share, soak_callers, sum_below, adds_to_maps}
-use Rattle.soak_laws.specs.Totals.{delta_of}
+use Rattle.query_rules.specs.Soak.{soak_kind, soak_query, soak_from, share, soak_callers, sum_below, adds_to_maps, is_of_kind}
+use Rattle.soak_laws.specs.Totals.{delta_of, gift_of}
 use Rattle.soak_laws.proofs.Sums.{total}
 use Rattle.soak_laws.proofs.SoakKinds.{is_fine_add, is_fine_give, is_look, IsSoak}
 
@@ -125,6 +125,11 @@ module _ (kind cell key delta : ℕ) where
       let d : nat_le delta 7 ≡ true = grind (arith, few) in
       by_kind (λ k p. cond (is_fine_add p) (delta_of p) 0 ≡ cond (k == 1) delta 0) refl (rw (a, b, d) refl) refl (λ k n0 n1 n2. sym (ap (λ b. cond b delta 0) (ne_eqb k 1 n1)))
 
+  gift_kind : kind < 4 → key < 16 → cond (is_fine_give q) (gift_of q) 0 ≡ cond (kind == 3) 1 0
+  gift_kind four near_key =
+      let b : nat_lt key 16 ≡ true = grind (arith, near_key) in
+      by_kind (λ k p. k < 4 → cond {A = ℕ} (is_fine_give p) (gift_of p) 0 ≡ cond (k == 3) 1 0) (λ h. refl) (λ h. refl) (λ h. refl) (λ k n0 n1 n2 h. rw b (sym (ap (λ b. cond {A = ℕ} b 1 0) (eq-eqb k 3 (omega (arith, n0, n1, n2, h)))))) four
+
 -- ---- so each query of the soak is, and its parts by its number
 module _ (j : ℕ) where
   in_cell : (j / 4 / 4 + j % 4) % 8 < 8
@@ -150,6 +155,9 @@ module _ (j : ℕ) where
 
   pub query_delta : cond (is_fine_add (soak_query j)) (delta_of (soak_query j)) 0 ≡ adds_to_maps j
   query_delta = delta_kind (j / 4 % 4) _ _ _ in_cell in_key few_more
+
+  pub query_gift : cond (is_fine_give (soak_query j)) (gift_of (soak_query j)) 0 ≡ is_of_kind 3 j
+  query_gift = gift_kind (j / 4 % 4) _ _ (1 + j % 7) (omega arith) in_key
 
 pub look_split : (k : ℕ) → cond {A = ℕ} (cond (k == 0) true (k == 2)) 1 0 ≡ cond (k == 0) 1 0 + cond (k == 2) 1 0
 look_split k = by_zero (k == 0) refl

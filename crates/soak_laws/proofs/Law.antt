@@ -9,15 +9,15 @@ use Rattle.query_rules.specs.Maps.{no_entries}
 use Rattle.query_rules.specs.Ledger.{no_accounts}
 use Rattle.query_rules.specs.History.{IsHistory, entries}
 use Rattle.query_rules.specs.Log.{is_counted, total_of}
-use Rattle.query_rules.specs.Soak.{soak_query, soak_callers, sum_below, soak_summary, adds_to_maps, is_of_kind}
-use Rattle.soak_laws.specs.Totals.{ComesTo, SoakHasOneSummary, delta_of, told_delta}
+use Rattle.query_rules.specs.Soak.{soak_query, soak_callers, sum_below, soak_totals, adds_to_maps, is_of_kind}
+use Rattle.soak_laws.specs.Totals.{ComesTo, SoakHasOneSummary, delta_of, told_delta, gift_of, told_gift}
 use Rattle.soak_laws.proofs.Sums as sums
 use Rattle.soak_laws.proofs.Sums.{total_same, total_length, total_sum, all_as, below_same, below_plus, below_one}
 use Rattle.soak_laws.proofs.SoakKinds.{is_fine_add, is_fine_give, is_look, IsLong, Served, long_once, soak_entries, queries_total, count_total}
 use Rattle.soak_laws.proofs.MapLaws.{fit_all, fit_none, sum_all, sum_none}
 use Rattle.soak_laws.proofs.LedgerLaws.{given_all, given_none}
 use Rattle.soak_laws.proofs.Served.{Entry, writes_fine, all_served, delta_total, jobs_fine, jobs_count}
-use Rattle.soak_laws.proofs.Generated.{soak_total, query_add, query_look, query_give, query_delta, look_split, callers_soak}
+use Rattle.soak_laws.proofs.Generated.{soak_total, query_add, query_look, query_give, query_delta, query_gift, look_split, callers_soak}
 
 module _ (count : ℕ) (few : count ≤ 1000000) (told : List (List Reply)) (h : IsHistory 16 (soak_callers count) told) where
   abbrev asked : List (List Query)
@@ -69,7 +69,13 @@ module _ (count : ℕ) (few : count ≤ 1000000) (told : List (List Reply)) (h :
       ∙ total_same told_delta (λ e. cond (is_fine_add e.0) (delta_of e.0) 0) all (all_as (λ e. Served e.0 e.1) (λ e. told_delta e ≡ cond (is_fine_add e.0) (delta_of e.0) 0) all (λ e s. ap (λ b. cond b (delta_of e.0) 0) s.writes) each)
       ∙ by_number (λ q. cond (is_fine_add q) (delta_of q) 0) adds_to_maps query_delta
 
-  pub comes_to : ComesTo 8 16 asked told h (soak_summary count)
+  gifts_are : sum_by told_gift all ≡ sum_below count (is_of_kind 3)
+  gifts_are =
+      total_sum told_gift all
+      ∙ total_same told_gift (λ e. cond (is_fine_give e.0) (gift_of e.0) 0) all (all_as (λ e. Served e.0 e.1) (λ e. told_gift e ≡ cond (is_fine_give e.0) (gift_of e.0) 0) all (λ e s. ap (λ b. cond b (gift_of e.0) 0) s.jobs) each)
+      ∙ by_number (λ q. cond (is_fine_give q) (gift_of q) 0) (is_of_kind 3) query_gift
+
+  pub comes_to : ComesTo 8 16 asked told h (soak_totals count)
   comes_to =
       let kinds = soak_entries asked told (callers_soak count) h.once in
       let fine = writes_fine all h.legal kinds in
@@ -86,6 +92,7 @@ module _ (count : ℕ) (few : count ≤ 1000000) (told : List (List Reply)) (h :
             ∙ ap (λ e. listed count (sum_below count (is_of_kind 1)) (sum_below count (is_of_kind 0) + sum_below count (is_of_kind 2)) 0 e) jobs_are;
         keys = (fit_all 0 no_entries h.legal.writes fine fit_none).only;
         deltas = told_is;
+        gifts = gifts_are;
         sum = let a = sum_all no_entries h.legal.writes fine in let z = sum_none in
             let d = delta_total all h.legal each in
             let n = by_number (λ q. cond (is_fine_add q) (delta_of q) 0) adds_to_maps query_delta in omega (arith, a, z, d, n);

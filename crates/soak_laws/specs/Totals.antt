@@ -1,14 +1,15 @@
 -- What a history comes to, and that the soak comes to its summary whatever its history.
 use Rattle.std.specs.Prelude.{◌≡◌, ℕ, ◌≤◌, ◌⊎◌, ◌∷◌, [], List, None, sum_by, if◌then◌else◌}
 use Rattle.query_rules.specs.declared.query.Query.{Query}
-use Rattle.query_rules.specs.declared.query.Query.TheVariants.{Add}
+use Rattle.query_rules.specs.declared.query.Query.TheVariants.{Add, Give}
 use Rattle.query_rules.specs.declared.query.Reply.{Reply}
 use Rattle.query_rules.specs.declared.query.Total.TheVariants as total
+use Rattle.query_rules.specs.declared.query.Totals.{Totals}
 use Rattle.query_rules.specs.Maps.{Maps, no_entries, amount_at}
 use Rattle.query_rules.specs.Ledger.{no_accounts, run_all, sum_of}
 use Rattle.query_rules.specs.History.{IsHistory, entries, replay}
 use Rattle.query_rules.specs.Log.{is_counted, totals_of}
-use Rattle.query_rules.specs.Soak.{Summary, sum_below, soak_callers, soak_summary}
+use Rattle.query_rules.specs.Soak.{sum_below, soak_callers, soak_totals, counts_in}
 
 -- the sum of the values of these keys in these cells, the first ones
 abbrev pub sum_of_maps : ℕ → ℕ → Maps → ℕ
@@ -27,14 +28,23 @@ delta_of _ = 0
 abbrev pub told_delta : Query × Reply → ℕ
 told_delta e = if is_counted total.Writes e.1 then delta_of e.0 else 0
 
--- a history in the summary's words: its counts, what its replies tell of additions, and the sums of all values of its maps and of its ledger at its end
-pub record ComesTo (cells rows : ℕ) (callers : List (List Query)) (told : List (List Reply)) (h : IsHistory rows callers told) (s : Summary) : Type 0 where
-  pub counts : totals_of told ≡ (total.Queries, s.queries) ∷ (total.Writes, s.writes) ∷ (total.Reads, s.reads) ∷ (total.Refused, s.refused) ∷ (total.Jobs, s.jobs) ∷ []
+-- the same of gifts, where the reply is a job's
+abbrev pub gift_of : Query → ℕ
+gift_of (Give key n) = n
+gift_of _ = 0
+
+abbrev pub told_gift : Query × Reply → ℕ
+told_gift e = if is_counted total.Jobs e.1 then gift_of e.0 else 0
+
+-- a history in the totals' words: its counts, what its replies tell of additions and of gifts, and the sums of all values of its maps and of its ledger at its end
+pub record ComesTo (cells rows : ℕ) (callers : List (List Query)) (told : List (List Reply)) (h : IsHistory rows callers told) (s : Totals) : Type 0 where
+  pub counts : totals_of told ≡ counts_in s
   pub keys : HasOnly cells rows (replay no_entries h.legal.writes)
   pub deltas : sum_by told_delta (entries callers told) ≡ s.sum
+  pub gifts : sum_by told_gift (entries callers told) ≡ s.ledger
   pub sum : sum_of_maps cells rows (replay no_entries h.legal.writes) ≡ s.sum
   pub ledger : sum_of (run_all rows no_accounts h.ledger.jobs) ≡ s.ledger
 
 -- every history of the soak comes to the same
 abbrev pub SoakHasOneSummary : Type 0
-SoakHasOneSummary = (count : ℕ) → count ≤ 1000000 → (told : List (List Reply)) → (h : IsHistory 16 (soak_callers count) told) → ComesTo 8 16 (soak_callers count) told h (soak_summary count)
+SoakHasOneSummary = (count : ℕ) → count ≤ 1000000 → (told : List (List Reply)) → (h : IsHistory 16 (soak_callers count) told) → ComesTo 8 16 (soak_callers count) told h (soak_totals count)

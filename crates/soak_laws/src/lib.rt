@@ -1,6 +1,6 @@
 //! What the soak comes to: a law of the definition of one history.
 //!
-//! The soak is a script of four callers, whose replies depend on the schedule. Its summary doesn't: whatever history the
+//! The soak is a script of four callers, whose replies depend on the schedule. Its totals don't: whatever history the
 //! replies are, as many of them are writes, reads and jobs, and the values of the maps and of the ledger at its end have
 //! the same sums. For no reply is `full` or `over`: all keys are among sixteen, as many as a map has rows, and a value is
 //! at most seven times the number of writes.
@@ -10,7 +10,7 @@
 
 ghost use Rattle.soak_laws.specs.Totals.{SoakHasOneSummary};
 
-/// Every history of the soak comes to its summary.
+/// Every history of the soak comes to its totals.
 pub fn a_soak_has_one_summary()
     ensures { SoakHasOneSummary }
 {}

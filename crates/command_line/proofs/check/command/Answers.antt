@@ -14,4 +14,5 @@ returns c =
     let second = c.in_ok-arg-2.ensures.shape c.option.ensures.local ∙ ap₂ with_rule first c.option.ensures.rule in
     let third = c.in_ok-arg-3.ensures.shape c.option-2.ensures.local ∙ ap₂ with_rule second c.option-2.ensures.rule in
     let fourth = c.in_ok-arg-4.ensures.shape c.option-3.ensures.local ∙ ap₂ with_rule third c.option-3.ensures.rule in
-    IfOk-weaker c.arg-5.result _ _ (λ r h. h.shape c.option-4.ensures.local ∙ ap₂ with_rule fourth c.option-4.ensures.rule) c.arg-5.ensures
+    let fifth = c.in_ok-arg-5.ensures.shape c.option-4.ensures.local ∙ ap₂ with_rule fourth c.option-4.ensures.rule in
+    IfOk-weaker c.arg-6.result _ _ (λ r h. h.shape c.option-5.ensures.local ∙ ap₂ with_rule fifth c.option-5.ensures.rule) c.arg-6.ensures

@@ -1,4 +1,4 @@
-use Rattle.std.proofs.Common.{inr, subst}
+use Rattle.std.proofs.Common.{inr, refl, subst}
 use Rattle.ql_base.specs.Bytes.{AppendsFront}
 use Rattle.query_text.specs.declared.refusal.Refusal.{Refusal}
 use Rattle.query_text.specs.Refusals.{refusal_text}
@@ -8,11 +8,14 @@ use Rattle.server_run.proofs.serve.serve_main.Goals as goal
 pub returns-in-Err-Refused-clause-cut : goal.returns-in-Err-Refused-clause-cut
 returns-in-Err-Refused-clause-cut g c = λ is.
     let P : Refusal → Type 0 = λ r. AppendsFront (g.K.Sink.written c.args.sink.now) (g.K.Sink.written c.refuse.new.sink) (refusal_text r) in
-    inr (record {
-      text = refusal_text c.in-Err-Refused.refusal;
-      refused = c.in-Err-Refused.ensures.refused c.in-Err-Refused.refusal c.in-Err-Refused.field-0-is;
-      grew = subst P c.in-Err-Refused.refusal-is (c.refuse.ensures.cut is);
-    })
+    inr (
+      record {
+        text = refusal_text c.in-Err-Refused.refusal;
+        refused = c.in-Err-Refused.ensures.refused c.in-Err-Refused.refusal c.in-Err-Refused.field-0-is;
+        grew = subst P c.in-Err-Refused.refusal-is (c.refuse.ensures.cut is);
+      },
+      refl,
+    )
 
 pub returns-in-Err-Refused-clause-complete : goal.returns-in-Err-Refused-clause-complete
 returns-in-Err-Refused-clause-complete g c = λ asked bytes told accepted read write.
