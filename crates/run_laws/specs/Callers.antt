@@ -44,7 +44,7 @@ pub record IsAsked (v : View Part) (d : ChainView LedgerParcel) (queries : List 
   -- the passes tell these replies behind what they had told
   pub tells : w.part.told ≡ told_from v.number 0 queries replies ++ v.part.told
   pub lists : e.own ≡ d.own ++ answers_from v.number 0 queries replies
-  -- who was refused has read why, and where the caller stood, it left no other footprints
+  -- who was refused has read why, and each footprint that was left is of one of these queries
   pub backed : AllZip (IsBacked w.shape w.steps v.number) queries replies
   pub trod : Treads (OneMayTread queries) v w
 

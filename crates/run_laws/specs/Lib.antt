@@ -1,11 +1,9 @@
 pub mod AskedLaws
 pub mod Callers
-pub mod CloseLaws
 pub mod Laws
 pub mod LedgerLaws
 pub mod ListLaws
 pub mod Lists
 pub mod MapLaws
-pub mod SeatLaws
 pub mod TakenLaws
 pub mod WholeLaws
