@@ -100,10 +100,10 @@ module _ {C P : Type 0} (g : Ghosts C P) (meets : View P → Want → View P →
     others = t.others;
   }
 
-some_same : (a b : Want) → Some a ≡ Some b → a ≡ b
+pub some_same : (a b : Want) → Some a ≡ Some b → a ≡ b
 some_same a b e = cc
 
-no_some : (x : Want) → None ≡ Some x → ⊥
+pub no_some : (x : Want) → None ≡ Some x → ⊥
 no_some x e = absurd (cc)
 
 module _ {C P : Type 0} (g : Ghosts C P) (meets : View P → Want → View P → Type 0) (wants : List Want) (shape : Shape) (v w : View P) (holds : List (Option Want)) (t : TookAll g meets wants v holds w) where

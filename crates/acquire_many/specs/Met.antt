@@ -84,16 +84,3 @@ module _ {C P : Type 0} (g : Ghosts C P) where
   -- the pass learnt what the lock guards
   abbrev pub Learns : ℕ → View P → View P → Type 0
   Learns lock v w = (words : List ℕ) × g.gains lock words v.part w.part
-
-  -- The wants with lower locks than this were taken in the order of their locks, then one try for this was refused, and then all that was taken was given back
-  pub record GaveUp (wants : List Want) (v : View P) (index : ℕ) (fault : TryFault) (w : View P) : Type 0 where
-    pub near : index < length wants
-    pub order : List ℕ
-    pub sorted : InOrderBelow wants (lock_at wants index) order
-    pub before : View P
-    pub taken : InTurn (Takes g) wants v order before
-    pub after : View P
-    pub refused : Refuses g before (want_at wants index) after fault
-    pub holds : List (Option Want)
-    pub held : HeldBelow wants (lock_at wants index) holds
-    pub returned : AtFirst (Returns g) holds after (length holds) w

@@ -6,6 +6,7 @@ use Rattle.lock_model.specs.declared.model.Mode.TheVariants as modes
 use Rattle.lock_model.specs.Locks.{Has}
 use Rattle.hall.specs.declared.cargo.CargoRule.{Ghosts}
 use Rattle.hall.specs.declared.guards.TryFault.{TryFault}
+use Rattle.hall.specs.declared.guards.TryFault.TheVariants.{Busy, Raced}
 use Rattle.hall.specs.declared.view.Footprint.{Footprint}
 use Rattle.hall.specs.declared.view.Kind.TheVariants as kinds
 use Rattle.hall.specs.declared.view.Standing.{Standing}
@@ -15,12 +16,13 @@ use Rattle.hall.specs.declared.view.View.{View}
 use Rattle.hall.specs.Treading.{IsAt, IsBetween, IsWeakAt, Treads, treads_as, treads_none, treads_step, treads_then}
 use Rattle.hall.specs.Views.{after_look, standing}
 use Rattle.apply_deferred.specs.SweepLaws.{sweep_goes}
-use Rattle.shared_mutex.specs.Acquiring.{TakesExclusive}
+use Rattle.shared_mutex.specs.Acquiring.{FoundReaders}
 use Rattle.shared_mutex.specs.Tries.{WritesAtLast}
-use Rattle.shared_mutex.specs.TrailLaws.{enters_treads, gives_back_treads, looked_at, releases_treads, takes_exclusive_treads, takes_shared_treads, writes_treads}
-use Rattle.shared_mutex.specs.TryLaws.{looked_once}
+use Rattle.shared_mutex.specs.TrailLaws.{enters_treads, gives_back_treads, looked_at, refuses_exclusive_treads, refuses_shared_treads, releases_treads, takes_exclusive_treads, takes_shared_treads, writes_treads}
+use Rattle.shared_mutex.specs.TryLaws.{looked_once, reader_looked, writer_looked}
 use Rattle.upgrade_mode.specs.Holding.{EntersUpgrade}
-use Rattle.acquire_many.specs.Met.{IsFor, Learns, Meets, Returns, Takes, standing_for}
+use Rattle.upgrade_mode.specs.Tries.{upgrader_looked}
+use Rattle.acquire_many.specs.Met.{IsFor, Learns, Meets, Refuses, Returns, Takes, standing_for}
 use Rattle.acquire_many.specs.Wants.{Want}
 
 no_both : (b : Bool) → b ≡ false → b ≡ true → ⊥
@@ -92,3 +94,18 @@ module _ {C P : Type 0} (g : Ghosts C P) where
   returns_leave v w (lock, modes.Shared) held t other ne was = left_so v w lock other ne (ap (λ (z : View P). z.part) t.1.0 ∙ ap (λ (x : Standing). lowered_part g x lock v.part) held) was
   returns_leave v w (lock, modes.Upgrade) held t other ne was = left_so v w lock other ne (ap (λ (z : View P). z.part) t.1.0) was
   returns_leave v w (lock, modes.Exclusive) held t other ne was = left_so v w lock other ne (ap (λ (z : View P). z.part) t.1) was
+
+  -- a try that was refused: its footprints, and that the pass learnt nothing
+  pub refuses_treads : (v w : View P) (want : Want) (fault : TryFault) → standing v want.0 ≡ stand.Away → Refuses g v want w fault → Treads (IsFor want) v w
+  refuses_treads v w (lock, modes.Shared) fault away r = weak_for lock v w (refuses_shared_treads g v w lock fault away r)
+  refuses_treads v w (lock, modes.Upgrade) fault away r = at_upgrade lock v w (looked_at v w lock (upgrader_looked g v lock w fault r))
+  refuses_treads v w (lock, modes.Exclusive) fault away r = at_exclusive lock v w (refuses_exclusive_treads g v w lock fault r)
+
+  found_part : (v w : View P) (lock word : ℕ) → FoundReaders g v lock w word → w.part ≡ v.part
+  found_part v w lock word f = ap (λ (x : View P). x.part) f.7.1 ∙ (sweep_goes g lock v.shape.slots f.3 f.0 f.2 f.4).part ∙ ap (λ (x : View P). x.part) f.1.2.0
+
+  pub refuses_part : (v w : View P) (want : Want) (fault : TryFault) → Refuses g v want w fault → w.part ≡ v.part
+  refuses_part v w (lock, modes.Shared) fault r = (reader_looked g v lock w fault r).part
+  refuses_part v w (lock, modes.Upgrade) fault r = (upgrader_looked g v lock w fault r).part
+  refuses_part v w (lock, modes.Exclusive) (Busy word) r = ⊎_elim (λ a. (writer_looked g v lock w (Busy word) a).part) (λ f. found_part v w lock word f) r
+  refuses_part v w (lock, modes.Exclusive) (Raced expected found) r = (writer_looked g v lock w (Raced expected found) r).part

@@ -2,13 +2,16 @@
 use Rattle.std.specs.Prelude.{◌≡◌, ◌≢◌, ℕ, ◌<◌, List, length, slice_index_or, Option, Some, None}
 use Rattle.lock_model.specs.declared.model.Mode.TheVariants as modes
 use Rattle.hall.specs.declared.cargo.CargoRule.{Ghosts}
+use Rattle.hall.specs.declared.guards.TryFault.{TryFault}
 use Rattle.hall.specs.declared.view.Footprint.{Footprint}
 use Rattle.hall.specs.declared.view.Standing.TheVariants as stand
 use Rattle.hall.specs.declared.view.View.{View}
 use Rattle.hall.specs.Treading.{Treads}
 use Rattle.hall.specs.Views.{standing}
-use Rattle.acquire_many.specs.Met.{AtFirst, HeldAll, HeldBelow, InTurn, IsFor, IsForAny, Returns, standing_for}
-use Rattle.acquire_many.specs.Wants.{InOrder, InOrderBelow, Want, lock_at, want_at}
+use Rattle.acquire_many.specs.declared.many.ManyFault.{ManyFault}
+use Rattle.acquire_many.specs.declared.many.ManyFault.TheVariants as faults
+use Rattle.acquire_many.specs.Met.{AtFirst, HeldAll, HeldBelow, InTurn, IsFor, IsForAny, Refuses, Returns, Takes, standing_for}
+use Rattle.acquire_many.specs.Wants.{InOrder, InOrderBelow, IsFirstTwice, Want, lock_at, most, want_at}
 
 module _ {C P : Type 0} (g : Ghosts C P) (meets : View P → Want → View P → Type 0) (wants : List Want) where
   -- the wants with locks below `from` were met, those with lower locks first
@@ -51,3 +54,26 @@ module _ {C P : Type 0} (g : Ghosts C P) (holds : List (Option Want)) where
     pub elsewhere : (lock : ℕ) → ((k : ℕ) (x : Want) → k < n → slice_index_or holds k None ≡ Some x → x.0 ≢ lock) → standing w lock ≡ standing v lock
     pub trail : Treads IsForHeld v w
     pub others : (lock : ℕ) → ((k : ℕ) (x : Want) → k < n → slice_index_or holds k None ≡ Some x → x.0 ≢ lock) → g.settled lock v.part → g.settled lock w.part
+
+module _ {C P : Type 0} (g : Ghosts C P) (wants : List Want) where
+  -- The wants with lower locks than this one were taken in the order of their locks, then the one try for this one was refused, and then all that was taken was given back, by one step each. The pass is away from each of the locks, and stands elsewhere as before
+  pub record GaveUp (v : View P) (index : ℕ) (fault : TryFault) (w : View P) : Type 0 where
+    pub near : index < length wants
+    pub order : List ℕ
+    pub sorted : InOrderBelow wants (lock_at wants index) order
+    pub before : View P
+    pub taken : InTurn (Takes g) wants v order before
+    pub after : View P
+    pub refused : Refuses g before (want_at wants index) after fault
+    pub holds : List (Option Want)
+    pub held : HeldBelow wants (lock_at wants index) holds
+    pub returned : AtFirst (Returns g) holds after most w
+    pub away : (k : ℕ) → k < length wants → standing w (lock_at wants k) ≡ stand.Away
+    pub elsewhere : (lock : ℕ) → ((k : ℕ) → k < length wants → lock_at wants k ≢ lock) → standing w lock ≡ standing v lock
+    pub trail : Treads (IsForAny wants) v w
+    pub others : (lock : ℕ) → ((k : ℕ) → k < length wants → lock_at wants k ≢ lock) → g.settled lock v.part → g.settled lock w.part
+
+  -- why nothing was taken
+  abbrev pub TookNone : View P → ManyFault → View P → Type 0
+  TookNone v (faults.Same index) w = IsFirstTwice wants index × (w ≡ v)
+  TookNone v (faults.Refused index fault) w = GaveUp v index fault w

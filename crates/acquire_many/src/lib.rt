@@ -16,4 +16,4 @@ mod waits;
 mod wants;
 
 pub use guards::{Guards, MANY, OneGuard};
-pub use many::{SameCell, lock_many, unlock_many};
+pub use many::{ManyFault, SameCell, lock_many, try_many, unlock_many};

@@ -1,19 +1,19 @@
 //! Several locks, in the order of their numbers.
-ghost use Rattle.std.specs.Prelude.{◌≡◌, ◌≢◌, ℕ, ◌<◌, ◌≤◌, Some, None, MatchResult, length, slice_index_or};
+ghost use Rattle.std.specs.Prelude.{◌≡◌, ◌≢◌, ℕ, ◌<◌, ◌≤◌, Some, None, IfOk, MatchResult, length, slice_index_or};
 ghost use Rattle.lock_model.specs.declared.model.Mode.TheVariants as modes;
 ghost use Rattle.hall.specs.Passes.{view, IsPassOf, shape_of};
 ghost use Rattle.hall.specs.Views.{standing};
 ghost use Rattle.hall.specs.declared.view.Standing.TheVariants.{Away};
 ghost use Rattle.shared_mutex.specs.Acquiring.{MadeAtMost};
 ghost use Rattle.acquire_many.specs.Guards.{Fit, said_by};
-ghost use Rattle.acquire_many.specs.Met.{Meets};
-ghost use Rattle.acquire_many.specs.Took.{GaveFirst, TookAll};
+ghost use Rattle.acquire_many.specs.Met.{Meets, Takes};
+ghost use Rattle.acquire_many.specs.Took.{GaveFirst, TookAll, TookNone};
 ghost use Rattle.acquire_many.specs.Wants.{IsFirstTwice, Want, lock_at, most};
 
 use crate::guards::{Guards, MANY, guards_of, holds_in, no_holds};
-use crate::one::{give_at, take};
+use crate::one::{give_at, take, try_to_take};
 use crate::wants::{next_want, same_at};
-use hall::{Cargo, Hall, Mode, Pass};
+use hall::{Cargo, Hall, Mode, Pass, TryFault};
 use std::sync::Wait;
 
 /// Two wants name one lock. No step was made.
@@ -21,6 +21,22 @@ use std::sync::Wait;
 pub struct SameCell {
     /// The first position in the list whose lock stands earlier in it.
     pub index: u64,
+}
+
+/// Why several locks weren't taken. The pass is away from all of them.
+#[derive(Clone, Copy, Debug, PartialEq, Eq)]
+pub enum ManyFault {
+    /// Two wants name one lock. No step was made.
+    Same {
+        /// The first position in the list whose lock stands earlier in it.
+        index: u64,
+    },
+    /// The one try for this want was refused. What had been taken was given back.
+    Refused {
+        /// The position of the want in the list.
+        index: u64,
+        fault: TryFault,
+    },
 }
 
 /// Waits until all locks of the list are held, each in its mode: at most `MANY`, and the pass is away from each. They are
@@ -52,6 +68,46 @@ pub fn lock_many<R: Wait, C: Cargo>(
     while let Some(position) = next_want(wants, from) {
         let want = wants[position];
         take(rt, hall, pass, want);
+        holds[position] = Some(want);
+        from = want.0 + 1;
+    }
+    Ok(guards_of(&holds))
+}
+
+/// Tries once for each lock of the list, in the order of their numbers: at most `MANY`, and the pass is away from each. The
+/// guards stand by the position of the want.
+///
+/// `Same` comes exactly where two wants name one lock; then no step was made. `Refused` comes exactly where the try for
+/// that want was refused with this fault; what had been taken was given back, and the pass is away from each lock.
+pub fn try_many<C: Cargo>(
+    hall: &Hall<C>,
+    pass: &mut Pass<C>,
+    wants: &[(u64, Mode)],
+) -> Result<Guards, ManyFault>
+    requires pass { IsPassOf hall.now pass.old }
+    requires few { length wants.now ≤ most }
+    requires locks { (k : ℕ) → k < length wants.now → lock_at wants.now k < (shape_of hall.now).locks }
+    requires away { (k : ℕ) → k < length wants.now → standing (view pass.old) (lock_at wants.now k) ≡ Away }
+    ensures pass { IsPassOf hall.now pass.new }
+    ensures took { MatchResult result (λ guards. TookAll C.CargoRule (Takes C.CargoRule) wants.now (view pass.old) (said_by guards) (view pass.new)) (λ fault. TookNone C.CargoRule wants.now (view pass.old) fault (view pass.new)) }
+    ensures fits { IfOk result (λ guards. Fit (shape_of hall.now) (view pass.new) (said_by guards)) }
+{
+    if let Some(position) = same_at(wants) {
+        return Err(ManyFault::Same {
+            index: position as u64,
+        });
+    }
+    let mut holds = no_holds();
+    let mut from = 0;
+    while let Some(position) = next_want(wants, from) {
+        let want = wants[position];
+        if let Err(fault) = try_to_take(hall, pass, want) {
+            give_all_back(hall, pass, &holds);
+            return Err(ManyFault::Refused {
+                index: position as u64,
+                fault,
+            });
+        }
         holds[position] = Some(want);
         from = want.0 + 1;
     }

@@ -1,0 +1,46 @@
+use Rattle.std.proofs.Common.{◌≡◌, List, Option, arith, rules, subst, sym, ◌∙◌, length-set}
+use Rattle.hall.specs.Passes.{view, shape_of}
+use Rattle.acquire_many.specs.Guards.{Fit}
+use Rattle.acquire_many.specs.Met.{Takes}
+use Rattle.acquire_many.specs.MetLaws.{takes_learns, takes_treads}
+use Rattle.acquire_many.specs.Took.{TookAll}
+use Rattle.acquire_many.specs.Wants.{Want}
+use Rattle.acquire_many.proofs.Taking.{fit_all, took_all, took_by, took_none}
+use Rattle.acquire_many.proofs.GivingUp.{fit_below, gave_up, settled_below}
+use Rattle.acquire_many.proofs.many.try_many.Goals as goal
+
+pub loop-position-init : goal.loop-position-init
+loop-position-init g c = record { pass = c.requires.pass; room = c.no_holds-holds.ensures.room; took = took_none g.C.CargoRule (Takes g.C.CargoRule) c.args.wants.now (view c.args.pass.now) c.no_holds-holds.result c.no_holds-holds.ensures.none }
+
+pub loop-position-preserved : goal.loop-position-preserved
+loop-position-preserved g c =
+    let so_far = c.loop-position.invariant in let least = c.in-Some-next_want.ensures in let k = c.in-Some-next_want.position in record {
+      pass = search rules;
+      room = length-set _ _ _ ∙ so_far.room;
+      took = took_by g.C.CargoRule (Takes g.C.CargoRule) c.args.wants.now (view c.args.pass.now) c.loop-position.from k c.loop-position.holds (view c.loop-position.pass) (view c.try_to_take.new.pass) c.in_default.ensures least so_far.took
+          (takes_treads g.C.CargoRule) (takes_learns g.C.CargoRule) (omega (arith, so_far.room, c.requires.few, least.0)) (c.requires.away k least.0) c.in_default-try_to_take.ensures.step c.in_default-try_to_take.ensures.stands c.in_default-try_to_take.ensures.elsewhere;
+    }
+
+pub returns-clause-took : goal.returns-clause-took
+returns-clause-took g c = subst (λ (l : List (Option Want)). TookAll g.C.CargoRule (Takes g.C.CargoRule) c.args.wants.now (view c.args.pass.now) l (view c.loop-position.pass)) (sym c.guards_of.ensures)
+    (took_all g.C.CargoRule (Takes g.C.CargoRule) c.args.wants.now (view c.args.pass.now) c.loop-position.from c.loop-position.holds (view c.loop-position.pass) c.in_default-next_want.ensures c.loop-position.invariant.took)
+
+pub returns-clause-fits : goal.returns-clause-fits
+returns-clause-fits g c =
+    let all = took_all g.C.CargoRule (Takes g.C.CargoRule) c.args.wants.now (view c.args.pass.now) c.loop-position.from c.loop-position.holds (view c.loop-position.pass) c.in_default-next_want.ensures c.loop-position.invariant.took in
+    subst (λ (l : List (Option Want)). Fit (shape_of c.args.hall.now) (view c.loop-position.pass) l) (sym c.guards_of.ensures) (fit_all g.C.CargoRule (Takes g.C.CargoRule) c.args.wants.now (shape_of c.args.hall.now) (view c.args.pass.now) (view c.loop-position.pass) c.loop-position.holds all c.requires.locks c.in_default.ensures)
+
+pub give_all_back-requires-clause-fits : goal.give_all_back-requires-clause-fits
+give_all_back-requires-clause-fits g c = λ _ _. let e = c.in-Err.ensures in
+    fit_below g.C.CargoRule c.args.wants.now (shape_of c.args.hall.now) (view c.args.pass.now) (view c.loop-position.pass) (view c.try_to_take.new.pass) c.loop-position.from c.in-Some-next_want.position c.loop-position.holds c.in-Err.fault
+    c.in-Some-next_want.ensures c.loop-position.invariant.took e.step e.elsewhere c.requires.locks c.in_default.ensures
+
+pub give_all_back-requires-clause-settled : goal.give_all_back-requires-clause-settled
+give_all_back-requires-clause-settled g c = λ _ _. let e = c.in-Err.ensures in
+    settled_below g.C.CargoRule c.args.wants.now (shape_of c.args.hall.now) (view c.args.pass.now) (view c.loop-position.pass) (view c.try_to_take.new.pass) c.loop-position.from c.in-Some-next_want.position c.loop-position.holds c.in-Err.fault
+    c.in-Some-next_want.ensures c.loop-position.invariant.took e.step e.elsewhere
+
+pub returns-in-Err-clause-took : goal.returns-in-Err-clause-took
+returns-in-Err-clause-took g c = let e = c.in-Err.ensures in
+    gave_up g.C.CargoRule c.args.wants.now (shape_of c.args.hall.now) (view c.args.pass.now) (view c.loop-position.pass) (view c.try_to_take.new.pass) c.loop-position.from c.in-Some-next_want.position c.loop-position.holds c.in-Err.fault
+    c.in-Some-next_want.ensures c.loop-position.invariant.took e.step e.elsewhere (view c.give_all_back.new.pass) c.give_all_back.ensures.gave c.requires.away e.stands c.requires.few
