@@ -1,4 +1,4 @@
--- What a history comes to, and that the soak comes to its summary whatever its history.
+-- What a history comes to, and that the soak comes to its totals whatever its history.
 use Rattle.std.specs.Prelude.{◌≡◌, ℕ, ◌≤◌, ◌⊎◌, List, None, sum_by, if◌then◌else◌}
 use Rattle.query_rules.specs.declared.query.Query.{Query}
 use Rattle.query_rules.specs.declared.query.Query.TheVariants.{Add, Give}
