@@ -70,13 +70,6 @@ texts_of words = map (λ w. string_bytes w) words
 abbrev pub options_in : List (String Global) → Option Options
 options_in words = if takes program (texts_of words) then options_of (matches_of program (texts_of words)) else None
 
--- the same where they ask for a run
-abbrev pub for_run : Options → Option Options
-for_run o = elim o.mode [ Run ↦ Some o | Soak ↦ None ]
-
-abbrev pub run_in : List (String Global) → Option Options
-run_in words = option_and_then for_run (options_in words)
-
 -- options are within the limits of a run
 abbrev pub IsWithinLimits : Options → Type 0
 IsWithinLimits o = (0 < o.rows) × (o.rows ≤ 65536) × (0 < o.slots) × (o.slots ≤ 256)

@@ -1,7 +1,7 @@
 // From words to options.
 ghost use Rattle.std.specs.Prelude.{◌≡◌, ◌≤◌, true, false, IfOk, IfSome, IfErr, IsErrOf, Some, None, map, option_map, codes, string_bytes};
 ghost use Rattle.clap.specs.Words.{app_of, first_of, found_of, matches_of, rows_of, rule_of, takes};
-ghost use Rattle.command_line.specs.Form.{IsWithinLimits, SuitsSoak, count_for, mode_named, number_or, options_in, options_of, policy_or, rows_for, run_in, texts_of};
+ghost use Rattle.command_line.specs.Form.{IsWithinLimits, SuitsSoak, count_for, mode_named, number_or, options_in, options_of, policy_or, rows_for, texts_of};
 ghost use Rattle.command_line.specs.declared.options.RunMode.TheVariants.{Soak};
 ghost use Rattle.command_line.specs.Program.{option_rule, program};
 
@@ -157,17 +157,4 @@ pub fn check_words(alloc: Global, words: &[String]) -> Result<Options, WordsFaul
 {
     let matches = matches_in(alloc, words)?;
     options(&matches).ok_or(WordsFault::Usage)
-}
-
-/// As [`check_words`], and `Usage` also where they ask for a soak.
-pub fn check_run(alloc: Global, words: &[String]) -> Result<Options, WordsFault>
-    ensures ok { IfOk result (λ o. run_in words.now ≡ Some o) }
-    ensures usage { IsErrOf result WordsFault.Usage → run_in words.now ≡ None }
-    ensures limits { IfOk result IsWithinLimits }
-{
-    let options = check_words(alloc, words)?;
-    match options.mode {
-        RunMode::Run => Ok(options),
-        RunMode::Soak => Err(WordsFault::Usage),
-    }
 }

@@ -9,7 +9,7 @@
 mod check;
 mod options;
 
-pub use check::{check_run, check_words};
+pub use check::check_words;
 pub use lock_model::Policy;
 pub use options::{Options, RunMode, WordsFault};
 

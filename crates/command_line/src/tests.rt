@@ -1,4 +1,4 @@
-use crate::{Options, Policy, RunMode, WordsFault, check_run, check_words};
+use crate::{Options, Policy, RunMode, WordsFault, check_words};
 use std::test::Fail;
 
 fn asked(rt: &HostRuntime, words: &[&str]) -> Result<Result<Options, WordsFault>, Fail> {
@@ -145,14 +145,5 @@ fn taken(rt: HostRuntime) -> Result<(), Fail> {
     for (words, options) in &lists {
         assert_eq!(rt; asked(&rt, *words)?, Ok(*options), "{words:?}");
     }
-    Ok(())
-}
-
-#[test]
-fn a_soak_is_no_run(rt: HostRuntime) -> Result<(), Fail> {
-    let soak = vec![in rt.alloc(); "soak".to_string(rt.alloc())?]?;
-    assert_eq!(rt; check_run(rt.alloc(), &soak), Err(WordsFault::Usage));
-    let run = vec![in rt.alloc(); "run".to_string(rt.alloc())?]?;
-    assert_eq!(rt; check_run(rt.alloc(), &run), Ok(RUN));
     Ok(())
 }

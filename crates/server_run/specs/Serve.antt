@@ -1,5 +1,6 @@
 -- What a run of the program has read and written, by its status.
-use Rattle.std.specs.Prelude.{◌≡◌, ℕ, ◌<◌, ◌≤◌, ◌⊎◌, List, [], length, Ok, Err, Some, None, IfSome, if◌then◌else◌, nat_lt}
+use Rattle.std.specs.Prelude.{◌≡◌, ℕ, ◌<◌, ◌≤◌, ◌⊎◌, List, [], length, Ok, Err, Some, None, IfSome, String, option_and_then, if◌then◌else◌, nat_lt}
+use Rattle.std.specs.declared.alloc.Global.{Global}
 use Rattle.std.specs.declared.option.Option.{Option}
 use Rattle.std.specs.declared.result.Result.{Result}
 use Rattle.std.specs.Io.KnownBytes.{Appends, IsAtEnd}
@@ -10,12 +11,32 @@ use Rattle.query_rules.specs.declared.query.Cause.{Cause}
 use Rattle.query_rules.specs.Grammar.{Asked, said_by}
 use Rattle.query_rules.specs.History.{IsHistory}
 use Rattle.query_rules.specs.Log.{IsLogOf, refused_at, refused_length}
+use Rattle.query_rules.specs.Soak.{soak_script, soak_totals, soak_text}
 use Rattle.hall.specs.Closing.{closing_view}
 use Rattle.waiter_chain.specs.declared.make.Retired.{Retired}
 use Rattle.query_cells.specs.Asked.{LedgerParcel, LedgerRun}
 use Rattle.run_laws.specs.Lists.{all_told, all_answers}
+use Rattle.command_line.specs.Form.{options_in}
 use Rattle.command_line.specs.declared.options.Options.{Options}
+use Rattle.command_line.specs.declared.options.RunMode.{RunMode}
+use Rattle.command_line.specs.declared.options.RunMode.TheVariants.{Run, Soak}
 use Rattle.server_run.specs.declared.ended.Ended.{Ended}
+
+abbrev pub run_only : RunMode → Options → Option Options
+run_only Run o = Some o
+run_only Soak o = None
+
+abbrev pub soak_only : RunMode → Options → Option Options
+soak_only Run o = None
+soak_only Soak o = Some o
+
+-- what the words ask for, where they ask for a run
+abbrev pub run_in : List (String Global) → Option Options
+run_in words = option_and_then (λ o. run_only o.mode o) (options_in words)
+
+-- the same where they ask for a soak
+abbrev pub soak_in : List (String Global) → Option Options
+soak_in words = option_and_then (λ o. soak_only o.mode o) (options_in words)
 
 -- the most bytes that a script may have
 abbrev pub limit : ℕ
@@ -79,6 +100,26 @@ pub record WritesFront (left left_new written written_new : Option (List ℕ)) (
   pub history : IsHistory o.rows script.callers told
   pub ended : EndedAs script o told e
   pub grew : AppendsFront written written_new text
+
+-- A soak under these options came to its end: the closes tell the replies of one history of its script.
+pub record HasSoaked (o : Options) (e : Ended) : Type 0 where
+  pub told : List (List Reply)
+  pub history : IsHistory 16 (soak_script o.count).callers told
+  pub ended : EndedAs (soak_script o.count) o told e
+
+-- what a soak under these options writes: its totals, which no schedule can change
+abbrev pub summary_of : Options → List ℕ
+summary_of o = soak_text o.count (soak_totals o.count)
+
+-- Status 0 of a soak: what was written is exactly its summary.
+pub record WritesSoak (written written_new : Option (List ℕ)) (o : Options) (e : Ended) : Type 0 where
+  pub ran : HasSoaked o e
+  pub grew : Appends written written_new (summary_of o)
+
+-- Status 5 of a soak: a front of that was written.
+pub record WritesSoakFront (written written_new : Option (List ℕ)) (o : Options) (e : Ended) : Type 0 where
+  pub ran : HasSoaked o e
+  pub grew : AppendsFront written written_new (summary_of o)
 
 -- more bytes came than a script may have, or they ask no script
 abbrev pub IsRefused : List ℕ → Type 0

@@ -6,7 +6,6 @@ ghost use Rattle.map_cargo.specs.Steps.{IsIdle};
 ghost use Rattle.dist_mutex.specs.Passes.{IsAtRest, IsDistPassOf, dist_view};
 ghost use Rattle.query_rules.specs.History.{IsHistory};
 ghost use Rattle.query_rules.specs.Numbers.{IsReply};
-ghost use Rattle.query_rules.specs.Log.{IsOrder};
 ghost use Rattle.command_line.specs.Form.{IsWithinLimits};
 ghost use Rattle.run_laws.specs.Lists.{writes_of, jobs_of};
 ghost use Rattle.run_laws.specs.Callers.{IsWhole, seats_for};
@@ -15,9 +14,8 @@ ghost use Rattle.server_run.specs.Rooms.{HasCells, IsFirst, IsFirstOf, MayAsk};
 
 use crate::ended::Ended;
 use crate::halves::run_both;
-use crate::order::order_of;
 use crate::reserved::push_reserved;
-use crate::room::{count_queries, open_hall, open_ledger};
+use crate::room::{open_hall, open_ledger};
 use crate::seats::{gather, reserve_lists, seat};
 use command_line::Options;
 use dist_mutex::mutex::DistMutex;
@@ -26,18 +24,17 @@ use hall::{Hall, Pass};
 use map_cargo::{MapCargo, close};
 use ql_base::{Clocks, Gate, NoMemory};
 use query_log::{Ledger, LedgerJob};
-use query_text::{Callers, Outcome, Script, Spot};
+use query_text::{Callers, Outcome, Script};
 use std::alloc::Global;
 use std::collections::VecDeque;
 use std::sync::Wait;
 use std::thread::Threads;
 
-/// What a run gives: the replies to each caller, the order of the log's lines, and what the closes
-/// of the hall and of the ledger's lock left.
+/// What a run gives: the replies to each caller, and what the closes of the hall and of the ledger's
+/// lock left.
 #[derive(Drop)]
 pub struct Ran {
     pub outcome: Outcome,
-    pub order: Vec<Spot>,
     pub ended: Ended,
 }
 
@@ -141,8 +138,8 @@ fn run_lists<R: Threads + Wait + Sync, T: Clocks, G: Gate>(
 ///
 /// All memory is taken before the first query, so `NoMemory` comes only then: the hall with a seat
 /// for each caller and a log row for each query that may write, the ledger behind its lock with a
-/// node for each caller and room for each job, the list of spots, and what `run_callers` takes. The
-/// call holds what it promises if it returns.
+/// node for each caller and room for each job, and what `run_callers` takes. The call holds what it
+/// promises if it returns.
 pub fn run_script<R: Threads + Wait + Sync, T: Clocks, G: Gate>(
     rt: &R,
     alloc: Global,
@@ -155,10 +152,8 @@ pub fn run_script<R: Threads + Wait + Sync, T: Clocks, G: Gate>(
     ensures history { IfOk result (λ ran. IsHistory options.now.rows script.now.callers ran.outcome) }
     ensures numbers { IfOk result (λ ran. AllByRecursion (AllByRecursion IsReply) ran.outcome) }
     ensures ended { IfOk result (λ ran. EndedAs script.now options.now ran.outcome ran.ended) }
-    ensures order { IfOk result (λ ran. IsOrder ran.outcome ran.order.items) }
 {
     let callers = script.callers();
-    let spots = Vec::with_capacity(alloc, count_queries(callers) as usize)?;
     let (hall, mut pass) = open_hall(alloc, script.cells(), callers, options)?;
     let (dist, mut dist_pass) = open_ledger(alloc, callers, options)?;
     let told = run_callers(
@@ -175,14 +170,9 @@ pub fn run_script<R: Threads + Wait + Sync, T: Clocks, G: Gate>(
     let closed = close(hall, pass);
     let (_ledger, retired) = dist.close(dist_pass);
     let outcome = told?;
-    let order = order_of(spots, &outcome);
     let ended = Ended {
         hall: Some(closed),
         dist: Some(retired),
     };
-    Ok(Ran {
-        outcome,
-        order,
-        ended,
-    })
+    Ok(Ran { outcome, ended })
 }

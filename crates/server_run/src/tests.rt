@@ -124,6 +124,35 @@ fn wrong_words_write_nothing(rt: HostRuntime) -> Result<(), AllocError> {
     Ok(())
 }
 
+#[test]
+fn a_soak_comes_to_its_totals(rt: HostRuntime) -> Result<(), AllocError> {
+    let alloc: Global = rt.alloc();
+    let soak = String::from_str(alloc, "soak")?;
+    let words = vec![in alloc; soak, String::from_str(alloc, "--count=16")?]?;
+    let (status, written) = run(&rt, &words, b"", &[0], &[])?;
+    assert_eq!(rt; status, 0);
+    let summary =
+        b"soak 16\nqueries 16\nwrites 4\nreads 8\nrefused 0\njobs 4\nsum 19\nledger 4\nend\n";
+    assert_eq!(rt; written.as_slice(), summary.as_slice());
+    let (status, written) = run(&rt, &words, b"", &[], &[2])?;
+    assert_eq!(rt; status, 5);
+    assert_eq!(rt; written.as_slice(), b"soak 16\nqueries 16\n".as_slice());
+    Ok(())
+}
+
+#[test]
+fn a_soak_of_one_query_reads(rt: HostRuntime) -> Result<(), AllocError> {
+    let alloc: Global = rt.alloc();
+    let soak = String::from_str(alloc, "soak")?;
+    let words = vec![in alloc; soak, String::from_str(alloc, "--count=1")?]?;
+    let (status, written) = run(&rt, &words, b"", &[], &[])?;
+    assert_eq!(rt; status, 0);
+    let summary =
+        b"soak 1\nqueries 1\nwrites 0\nreads 1\nrefused 0\njobs 0\nsum 0\nledger 0\nend\n";
+    assert_eq!(rt; written.as_slice(), summary.as_slice());
+    Ok(())
+}
+
 // A gate that counts the queries, and holds none back.
 #[derive(Drop)]
 struct CountGate {

@@ -9,15 +9,7 @@ use Rattle.map_cargo.specs.Entries.{as_reply}
 use Rattle.dist_mutex.specs.Passes.{opening_of, dist_view}
 use Rattle.run_laws.specs.Lists.{jobs_of}
 use Rattle.run_laws.specs.WholeLaws.{whole_is_history}
-use Rattle.server_run.proofs.Numbers.{as_many}
 use Rattle.server_run.proofs.run.run_script.Goals as goal
-
-pub order_of-order-requires-clause-room : goal.order_of-order-requires-clause-room
-order_of-order-requires-clause-room g c =
-    let callers = c.args.script.now.callers in
-    let many = as_many callers c.in_ok-outcome.outcome c.in_ok-outcome.ensures.whole.once in
-    let same = ap (λ (l : List (List Query)). sum_by (length {A = Query}) l) c.callers-callers.ensures.value in
-    omega (arith, many, same, c.count_queries.ensures, c.in_ok-spots.ensures.capacity)
 
 pub returns-clause-history : goal.returns-clause-history
 returns-clause-history g c =

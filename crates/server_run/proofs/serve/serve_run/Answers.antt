@@ -3,7 +3,7 @@ use Rattle.ql_base.specs.Bytes.{AppendsFront}
 use Rattle.query_text.specs.declared.refusal.Refusal.{Refusal}
 use Rattle.query_text.specs.Refusals.{refusal_text}
 use Rattle.server_run.proofs.Refusals.{accepted_alone, asked_writable}
-use Rattle.server_run.proofs.serve.serve_main.Goals as goal
+use Rattle.server_run.proofs.serve.serve_run.Goals as goal
 
 pub returns-in-Err-Refused-clause-cut : goal.returns-in-Err-Refused-clause-cut
 returns-in-Err-Refused-clause-cut g c = λ is.
@@ -18,8 +18,8 @@ returns-in-Err-Refused-clause-cut g c = λ is.
     )
 
 pub returns-in-Err-Refused-clause-complete : goal.returns-in-Err-Refused-clause-complete
-returns-in-Err-Refused-clause-complete g c = λ asked bytes told accepted read write.
+returns-in-Err-Refused-clause-complete g c = λ bytes told accepted read write.
     absurd (accepted_alone (g.S.Source.left c.args.source.now) bytes (refusal_text c.in-Err-Refused.refusal) told (c.in-Err-Refused.ensures.refused c.in-Err-Refused.refusal c.in-Err-Refused.field-0-is) accepted)
 
 pub answer-requires-clause-script : goal.answer-requires-clause-script
-answer-requires-clause-script g c κs within = asked_writable _ _ c.in-Ok-read_script.script c.in-Ok-read_script.ensures.read
+answer-requires-clause-script g c κs within = asked_writable _ _ c.in-Ok.script c.in-Ok.ensures.read
