@@ -12,6 +12,8 @@
 mod guards;
 mod many;
 mod one;
+#[cfg(test)]
+mod tests;
 mod waits;
 mod wants;
 
