@@ -1,3 +1,5 @@
 mod Below
+mod Counting
 mod GivingUp
+mod Pairs
 mod Taking

@@ -1,5 +1,5 @@
 //! Several locks, in the order of their numbers.
-ghost use Rattle.std.specs.Prelude.{◌≡◌, ◌≢◌, ℕ, ◌<◌, ◌≤◌, Some, None, IfOk, MatchResult, length, slice_index_or};
+ghost use Rattle.std.specs.Prelude.{◌≡◌, ◌≢◌, ℕ, ◌+◌, ◌*◌, ◌<◌, ◌≤◌, Some, None, IfOk, MatchResult, length, slice_index_or};
 ghost use Rattle.lock_model.specs.declared.model.Mode.TheVariants as modes;
 ghost use Rattle.hall.specs.Passes.{view, IsPassOf, shape_of};
 ghost use Rattle.hall.specs.Views.{standing};
@@ -78,7 +78,8 @@ pub fn lock_many<R: Wait, C: Cargo>(
 /// guards stand by the position of the want.
 ///
 /// `Same` comes exactly where two wants name one lock; then no step was made. `Refused` comes exactly where the try for
-/// that want was refused with this fault; what had been taken was given back, and the pass is away from each lock.
+/// that want was refused with this fault; what had been taken was given back, and the pass is away from each lock. At most
+/// 2 steps for each slot and 5 more for each want, and then one for each guard.
 pub fn try_many<C: Cargo>(
     hall: &Hall<C>,
     pass: &mut Pass<C>,
@@ -91,6 +92,7 @@ pub fn try_many<C: Cargo>(
     ensures pass { IsPassOf hall.now pass.new }
     ensures took { MatchResult result (λ guards. TookAll C.CargoRule (Takes C.CargoRule) wants.now (view pass.old) (said_by guards) (view pass.new)) (λ fault. TookNone C.CargoRule wants.now (view pass.old) fault (view pass.new)) }
     ensures fits { IfOk result (λ guards. Fit (shape_of hall.now) (view pass.new) (said_by guards)) }
+    ensures steps { MadeAtMost (view pass.old) (view pass.new) ((2 * (shape_of hall.now).slots + 5) * length wants.now + most) }
 {
     if let Some(position) = same_at(wants) {
         return Err(ManyFault::Same {

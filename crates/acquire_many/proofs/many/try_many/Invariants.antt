@@ -1,8 +1,9 @@
-use Rattle.std.proofs.Common.{◌≡◌, ◌-◌, length}
+use Rattle.std.proofs.Common.{◌≡◌, ◌+◌, ◌-◌, ◌*◌, ◌≤◌, length}
 use Rattle.hall.specs.Passes.{view, IsPassOf, shape_of}
 use Rattle.acquire_many.specs.Met.{Takes}
 use Rattle.acquire_many.specs.Took.{TookBelow}
 use Rattle.acquire_many.specs.Wants.{most}
+use Rattle.acquire_many.proofs.Counting.{below}
 use Rattle.acquire_many.proofs.many.try_many.Given as goal
 
 -- all wants with locks below `from` are held, and no others
@@ -11,6 +12,7 @@ invariant-loop-position g l = record {
   pass : IsPassOf l.hall l.pass;
   room : length l.holds ≡ most;
   took : TookBelow g.C.CargoRule (Takes g.C.CargoRule) l.wants l.from (view l.fn.pass) l.holds (view l.pass);
+  steps : length (view l.pass).steps ≤ length (view l.fn.pass).steps + (2 * (shape_of l.hall).slots + 5) * below l.wants l.from;
 }
 
 abbrev pub decreases-loop-position : goal.decreases-loop-position
