@@ -4,3 +4,4 @@ mod Crowds
 mod Numbers
 mod Orders
 mod Refusals
+mod Soaked

@@ -12,6 +12,7 @@ use Rattle.query_rules.specs.Grammar.{Asked, said_by}
 use Rattle.query_rules.specs.History.{IsHistory}
 use Rattle.query_rules.specs.Log.{IsLogOf, refused_at, refused_length}
 use Rattle.query_rules.specs.Soak.{soak_script, soak_totals, soak_text}
+use Rattle.soak_laws.specs.Totals.{ComesTo}
 use Rattle.hall.specs.Closing.{closing_view}
 use Rattle.waiter_chain.specs.declared.make.Retired.{Retired}
 use Rattle.query_cells.specs.Asked.{LedgerParcel, LedgerRun}
@@ -101,10 +102,11 @@ pub record WritesFront (left left_new written written_new : Option (List ℕ)) (
   pub ended : EndedAs script o told e
   pub grew : AppendsFront written written_new text
 
--- A soak under these options came to its end: the closes tell the replies of one history of its script.
+-- A soak under these options came to its end: the closes tell the replies of one history of its script, and that comes to its totals.
 pub record HasSoaked (o : Options) (e : Ended) : Type 0 where
   pub told : List (List Reply)
   pub history : IsHistory 16 (soak_script o.count).callers told
+  pub totals : ComesTo 8 16 (soak_script o.count).callers told history (soak_totals o.count)
   pub ended : EndedAs (soak_script o.count) o told e
 
 -- what a soak under these options writes: its totals, which no schedule can change

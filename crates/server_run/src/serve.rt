@@ -20,6 +20,7 @@ use command_line::{Options, RunMode, WordsFault, check_words};
 use ql_base::{Clocks, Gate, ReadFault, Sink, Source, read_to_end};
 use query_text::{ParseFault, Refusal, Script, parse_script, write_log, write_refusal, write_soak};
 use soak::{make_soak, sum_up};
+use soak_laws::a_soak_has_one_summary;
 use std::alloc::Global;
 use std::sync::Wait;
 use std::thread::Threads;
@@ -186,6 +187,7 @@ fn serve_soak<R: Threads + Wait + Sync, K: Sink, T: Clocks, G: Gate>(
         return NO_MEMORY;
     };
     *ended = soaked.ended;
+    a_soak_has_one_summary();
     let totals = sum_up(options.count, &script, &soaked.outcome);
     match write_soak(sink, options.count, &totals) {
         Ok(()) => DONE,
