@@ -1,4 +1,4 @@
-// Clocks.
+//! Clocks.
 ghost use Rattle.std.specs.Prelude.{◌≡◌, List, ℕ};
 ghost use Rattle.std.specs.declared.option.Option.{Option};
 ghost use Rattle.ql_base.specs.Answers.{AddsAnswer};

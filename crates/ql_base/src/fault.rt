@@ -1,4 +1,4 @@
-// Why a read, a write or a request for memory gave nothing.
+//! Why a read, a write or a request for memory gave nothing.
 ghost use Rattle.std.specs.Prelude.{◌≡◌};
 ghost use Rattle.ql_base.specs.declared.fault.ReadFault.{ReadFault};
 

@@ -1,4 +1,4 @@
-// Gates.
+//! Gates.
 
 /// What holds queries back: a caller calls `before` ahead of each query and `after` behind it, with
 /// its own number and the query's index.

@@ -1,4 +1,4 @@
-// A gate that holds one call back.
+//! A gate that holds one call back.
 use crate::Gate;
 use crate::turns::comes_to;
 use crossbeam_utils::CachePadded;

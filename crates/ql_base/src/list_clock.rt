@@ -1,4 +1,4 @@
-// Clocks that go through a list.
+//! Clocks that go through a list.
 ghost use Rattle.std.specs.Prelude.{◌≡◌, ◌<◌, ℕ, List, length};
 ghost use Rattle.ql_base.specs.Answers.{AddsAnswer, answer_at};
 ghost use Rattle.ql_base.specs.Causes.{count_after};

@@ -1,4 +1,4 @@
-// A source and a sink in memory, whose calls fail by a list.
+//! A source and a sink in memory, whose calls fail by a list.
 ghost use Rattle.std.specs.Prelude.{◌≡◌, ◌+◌, ◌<◌, ◌≤◌, ◌⊎◌, ◌↔◌, min, take, drop, length};
 ghost use Rattle.std.specs.Prelude.{vec_len, vec_capacity, Some, Contains};
 ghost use Rattle.std.specs.Prelude.{IsErr, IsTrue, IfOk, OnOk, OnErr};

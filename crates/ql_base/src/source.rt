@@ -1,4 +1,4 @@
-// A source of bytes.
+//! A source of bytes.
 ghost use Rattle.std.specs.Prelude.{◌≡◌, ◌≢◌, ◌+◌, ◌<◌, ◌≤◌, ◌^◌, List, ℕ, length, take, drop, vec_len};
 ghost use Rattle.std.specs.Prelude.{IfOk, IfErr, IfSome, IsErrOf, OnOk, OnErr};
 ghost use Rattle.std.specs.Io.{StartsWith};

@@ -1,4 +1,4 @@
-// A gate that puts calls in an order.
+//! A gate that puts calls in an order.
 ghost use Rattle.std.specs.Prelude.{◌≡◌, ◌==◌, ◌&&◌, position};
 
 use crate::Gate;

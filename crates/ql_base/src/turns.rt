@@ -1,4 +1,4 @@
-// Waiting by turns.
+//! Waiting by turns.
 use std::sync::atomic::{AtomicU64, Ordering};
 use std::thread;
 

@@ -1,4 +1,4 @@
-// Clocks over the system's.
+//! Clocks over the system's.
 ghost use Rattle.std.specs.Prelude.{◌≡◌, ℕ, None};
 
 use ql_base::{Clock, Clocks};

@@ -1,4 +1,4 @@
-// A source and a sink over std's readers and writers.
+//! A source and a sink over std's readers and writers.
 ghost use Rattle.std.specs.Prelude.{◌≡◌, ◌≤◌, ℕ, None, IfOk, length};
 ghost use Rattle.ql_base.specs.Causes.{HasCause, Rose};
 

@@ -1,4 +1,4 @@
-// What is tried.
+//! What is tried.
 ghost use Rattle.std.specs.Prelude.{◌≡◌, ◌+◌, ℕ, IfOk, IfErr, OnErr};
 ghost use Rattle.std.specs.Result.{result_err};
 ghost use Rattle.std.specs.declared.option.Option.{Option};

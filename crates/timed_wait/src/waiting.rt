@@ -1,4 +1,4 @@
-// Trying until a try succeeds.
+//! Trying until a try succeeds.
 ghost use Rattle.std.specs.Prelude.{◌≡◌, ◌≤◌, ◌<◌, [], ◌∷◌, ◌⊎◌, ◌+◌, None, Some, IfOk, IfErr, OnOk, OnErr};
 ghost use Rattle.timed_wait.specs.Waiting.{AsksBelow};
 
