@@ -11,6 +11,7 @@ use Rattle.command_line.specs.declared.options.RunMode.{RunMode}
 use Rattle.command_line.specs.declared.options.RunMode.TheVariants.{Run, Soak}
 use Rattle.lock_model.specs.declared.model.Policy.{Policy}
 use Rattle.lock_model.specs.declared.model.Policy.TheVariants.{WritePriority, ReadPriority}
+use Rattle.query_rules.specs.declared.query.TheConstants.{MOST_QUERIES}
 
 infixl 10 ◌>>=◌
 abbrev pub ◌>>=◌ : {A B : Type 0} → Option A → (A → Option B) → Option B
@@ -49,7 +50,7 @@ rows_for Soak word = only 16 word
 
 unfoldable pub count_for : RunMode → Option Text → Option ℕ
 count_for Run word = only 1000 word
-count_for Soak word = number_or 1 1000000 1000 word
+count_for Soak word = number_or 1 MOST_QUERIES 1000 word
 
 -- what the values of the command's arguments ask for
 unfoldable pub options_of : List Row → Option Options
@@ -76,4 +77,4 @@ IsWithinLimits o = (0 < o.rows) × (o.rows ≤ 65536) × (0 < o.slots) × (o.slo
 
 -- and of a soak
 abbrev pub SuitsSoak : Options → Type 0
-SuitsSoak o = (0 < o.count) × (o.count ≤ 1000000) × (o.mode ≡ Soak → o.rows ≡ 16)
+SuitsSoak o = (0 < o.count) × (o.count ≤ MOST_QUERIES) × (o.mode ≡ Soak → o.rows ≡ 16)

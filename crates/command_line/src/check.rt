@@ -4,10 +4,11 @@ ghost use Rattle.clap.specs.Words.{app_of, first_of, found_of, matches_of, rows_
 ghost use Rattle.command_line.specs.Form.{IsWithinLimits, SuitsSoak, count_for, mode_named, number_or, options_in, options_of, policy_or, rows_for, texts_of};
 ghost use Rattle.command_line.specs.declared.options.RunMode.TheVariants.{Soak};
 ghost use Rattle.command_line.specs.Program.{option_rule, program};
+ghost use Rattle.query_rules.specs.declared.query.TheConstants.{MOST_QUERIES};
 
 use crate::{Options, Policy, RunMode, WordsFault};
 use clap::{Arg, ArgMatches, Command};
-use query_rules::number;
+use query_rules::{MOST_QUERIES, number};
 use std::alloc::{AllocError, Global};
 
 // An option `--name value`.
@@ -104,12 +105,12 @@ fn rows_from(mode: RunMode, word: Option<&str>) -> Option<u64>
 #[tactic(auto, unfolding(crate::specs::Form::count_for))]
 fn count_from(mode: RunMode, word: Option<&str>) -> Option<u64>
     ensures value { result ≡ count_for mode (option_map (λ s. s.now) word.entry) }
-    ensures within { IfSome result (λ n. (1 ≤ n) × (n ≤ 1000000)) }
+    ensures within { IfSome result (λ n. (1 ≤ n) × (n ≤ MOST_QUERIES)) }
 {
     match mode {
         RunMode::Run if word.is_none() => Some(1000),
         RunMode::Run => None,
-        RunMode::Soak => number_from(word, 1, 1_000_000, 1000),
+        RunMode::Soak => number_from(word, 1, MOST_QUERIES, 1000),
     }
 }
 

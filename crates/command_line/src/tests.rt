@@ -1,4 +1,5 @@
 use crate::{Options, Policy, RunMode, WordsFault, check_words};
+use query_rules::MOST_QUERIES;
 use std::test::Fail;
 
 fn asked(rt: &HostRuntime, words: &[&str]) -> Result<Result<Options, WordsFault>, Fail> {
@@ -120,7 +121,7 @@ fn taken(rt: HostRuntime) -> Result<(), Fail> {
         (
             &["soak", "--count", "1000000"],
             Options {
-                count: 1_000_000,
+                count: MOST_QUERIES,
                 ..SOAK
             },
         ),

@@ -4,7 +4,7 @@ use Rattle.std.specs.List.{list_all}
 use Rattle.query_rules.specs.declared.query.Query.{Query}
 use Rattle.query_rules.specs.declared.query.Reply.{Reply}
 use Rattle.query_rules.specs.declared.query.Reply.TheVariants.{Placed, Busy, Late, Job}
-use Rattle.query_rules.specs.declared.query.TheConstants.{MOST_CALLERS}
+use Rattle.query_rules.specs.declared.query.TheConstants.{MOST_CALLERS, MOST_CELLS, MOST_QUERIES}
 use Rattle.query_rules.specs.Grammar.{Asked, cells_of}
 use Rattle.query_rules.specs.History.{has_said, is_try, has_deadline, has_result}
 use Rattle.log_reader.specs.declared.answered.Answered.{Answered}
@@ -52,7 +52,7 @@ is_answer cells a = takes_below cells a.query && has_reply a.query a.reply
 
 -- the limits of a script, and each line's
 abbrev pub is_log : Listing → Bool
-is_log l = nat_lt 0 l.cells && nat_le l.cells 64 && nat_le l.callers MOST_CALLERS && nat_le (length l.lines) 1000000 && list_all (is_answer l.cells) l.lines
+is_log l = nat_lt 0 l.cells && nat_le l.cells MOST_CELLS && nat_le l.callers MOST_CALLERS && nat_le (length l.lines) MOST_QUERIES && list_all (is_answer l.cells) l.lines
 
 -- what a log's lines must meet
 pub record IsLog (l : Listing) : Type 0 where

@@ -12,12 +12,9 @@ use crate::LogFault;
 use crate::checks::{all_answers, is_sorted, sort_lines};
 use crate::group::groups;
 use crate::listing::{Page, read_page};
-use query_rules::MOST_CALLERS;
+use query_rules::{MOST_CALLERS, MOST_CELLS, MOST_QUERIES};
 use query_text::{Outcome, Script};
 use std::alloc::Global;
-
-/// The most queries that a script may have.
-const MOST_QUERIES: usize = 1_000_000;
 
 /// What a log says: the script that was asked, the rows of each cell, and what was replied.
 #[derive(Drop)]
@@ -62,9 +59,9 @@ fn is_log(page: &Page) -> bool
     ensures { result ≡ log_test (page_view page.now) }
 {
     page.cells > 0
-        && page.cells <= 64
+        && page.cells <= MOST_CELLS
         && page.callers <= MOST_CALLERS
-        && page.lines.len() <= MOST_QUERIES
+        && page.lines.len() as u64 <= MOST_QUERIES
         && all_answers(page.cells, &page.lines)
 }
 

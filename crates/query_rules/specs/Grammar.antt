@@ -6,7 +6,7 @@ use Rattle.std.specs.List.{list_any, AllByRecursion}
 use Rattle.query_rules.specs.declared.query.Query.{Query}
 use Rattle.query_rules.specs.declared.query.Cause.{Cause}
 use Rattle.query_rules.specs.declared.query.Cause.TheVariants.{BadByte, Spacing, MissingCells, Unknown, WordCount, TooManyCallers, NoCaller, BadNumber, CellRange, TooManyQueries}
-use Rattle.query_rules.specs.declared.query.TheConstants.{MOST_CALLERS}
+use Rattle.query_rules.specs.declared.query.TheConstants.{MOST_CALLERS, MOST_CELLS, MOST_QUERIES}
 use Rattle.query_rules.specs.declared.verb.Verb.{Verb}
 use Rattle.query_rules.specs.Verbs.{verb_named, verb_of, numbers_of, arity, cells_in, query_of, query_words}
 use Rattle.query_rules.specs.Words.{lines_of, words_of, number_of}
@@ -63,7 +63,7 @@ cells_causes words =
     (not (bytes_eq (word_at words 0) (codes "cells")), MissingCells)
     ∷ (not (length words == 2), WordCount)
     ∷ (is_none numbers, BadNumber)
-    ∷ (cells == 0 || nat_lt 64 cells, CellRange) ∷ []
+    ∷ (cells == 0 || nat_lt MOST_CELLS cells, CellRange) ∷ []
 
 abbrev pub cells_line : List (List ℕ) → Result Asked Cause
 cells_line words = gives (first_cause (cells_causes words)) (record { cells = slice_index (unwrap_or (numbers_in (drop 1 words)) []) 0; callers = [] })
@@ -83,7 +83,7 @@ query_causes s verb words =
     ∷ (length s.callers == 0, NoCaller)
     ∷ (is_none numbers, BadNumber)
     ∷ (list_any (λ n. nat_le s.cells n) (take (cells_in verb) (unwrap_or numbers [])), CellRange)
-    ∷ (nat_le 1000000 (sum_by length s.callers), TooManyQueries) ∷ []
+    ∷ (nat_le MOST_QUERIES (sum_by length s.callers), TooManyQueries) ∷ []
 
 abbrev pub query_line : Asked → Verb → List (List ℕ) → Result Asked Cause
 query_line s verb words =
@@ -124,7 +124,7 @@ TakesBelow cells q = AllByRecursion (λ c. c < cells) (cells_of q)
 -- what every script meets
 pub record IsScript (s : Asked) : Type 0 where
   pub some : 0 < s.cells
-  pub cells : s.cells ≤ 64
+  pub cells : s.cells ≤ MOST_CELLS
   pub crowd : length s.callers ≤ MOST_CALLERS
-  pub few : sum_by length s.callers ≤ 1000000
+  pub few : sum_by length s.callers ≤ MOST_QUERIES
   pub taken : AllByRecursion (AllByRecursion (TakesBelow s.cells)) s.callers

@@ -1,5 +1,5 @@
 -- The ledger: accounts with their balances, and what a job makes of them.
-use Rattle.std.specs.Prelude.{◌≡◌, ℕ, ◌+◌, ◌-◌, ◌<◌, ◌==◌, Bool, false, List, [], ◌∷◌, Some, None, Ok, Err, length, take, slice_get, count_by, sum_by, if◌then◌else◌, nat_le, nat_lt}
+use Rattle.std.specs.Prelude.{◌≡◌, ℕ, ◌+◌, ◌-◌, ◌<◌, ◌==◌, Bool, false, List, [], ◌∷◌, Some, None, Ok, Err, length, take, slice_get, count_by, is_some, sum_by, if◌then◌else◌, nat_le, nat_lt}
 use Rattle.std.specs.declared.option.Option.{Option}
 use Rattle.std.specs.declared.result.Result.{Result}
 use Rattle.std.specs.List.{AllByRecursion}
@@ -83,6 +83,10 @@ act_of (query.Give key n) = Some (Give key n)
 act_of (query.Take key n) = Some (Take key n)
 act_of query.Audit = Some Audit
 act_of _ = None
+
+-- how many of these ask the ledger
+abbrev pub jobs_of : List Query → ℕ
+jobs_of queries = count_by (λ (q : Query). is_some (act_of q)) queries
 
 -- a job's reply has the result of its job on the ledger of its position, and that job is the one of these there
 abbrev pub RunsAt : ℕ → Accounts → List LedgerAct → Query × Reply → Type 0

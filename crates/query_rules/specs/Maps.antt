@@ -1,5 +1,5 @@
 -- The plain maps: what they say to a query, and what maps the query leaves.
-use Rattle.std.specs.Prelude.{ℕ, ◌+◌, ◌-◌, ◌^◌, ◌==◌, ◌&&◌, Bool, true, false, Some, None, if◌then◌else◌, nat_le, nat_lt, is_some, is_none, unwrap_or}
+use Rattle.std.specs.Prelude.{ℕ, ◌+◌, ◌-◌, ◌^◌, ◌==◌, ◌&&◌, Bool, true, false, List, Some, None, if◌then◌else◌, nat_le, nat_lt, count_by, is_some, is_none, unwrap_or}
 use Rattle.std.specs.declared.option.Option.{Option}
 use Rattle.query_rules.specs.declared.query.Query.{Query}
 use Rattle.query_rules.specs.declared.query.Query.TheVariants.{Get, Len, Put, Del, Add, Cas, PutLen, Move, Both, TryGet, TryPut, GetBy, PutBy, Give, Take, Audit}
@@ -138,6 +138,10 @@ may_write (PutBy cell key value deadline) = true
 may_write (Give key n) = false
 may_write (Take key n) = false
 may_write Audit = false
+
+-- how many of these may change a map
+abbrev pub writes_of : List Query → ℕ
+writes_of queries = count_by may_write queries
 
 -- the first map of a move: a key that isn't there stays away
 abbrev pub less : PlainMap → ℕ → ℕ → PlainMap

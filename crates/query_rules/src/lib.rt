@@ -17,7 +17,7 @@ mod verb;
 pub use laws::who_is_alone_is_served;
 pub use numeral::number;
 pub use query::{
-    Account, Cause, LedgerAct, LedgerTold, LedgerTrouble, MOST_CALLERS, Query, Reply, Said,
-    Section, Spot, Total, Totals,
+    Account, Cause, LedgerAct, LedgerTold, LedgerTrouble, MOST_CALLERS, MOST_CELLS, MOST_QUERIES,
+    Query, Reply, Said, Section, Spot, Total, Totals,
 };
 pub use verb::Verb;

@@ -224,8 +224,14 @@ pub enum Reply {
     },
 }
 
+/// The most cells that a script may have.
+pub const MOST_CELLS: u64 = 64;
+
 /// The most callers that a script may have.
 pub const MOST_CALLERS: u64 = 64;
+
+/// The most queries that a script may have, and a soak may ask.
+pub const MOST_QUERIES: u64 = 1_000_000;
 
 /// Why a line of a script is refused.
 #[derive(Clone, Copy, Debug, PartialEq, Eq)]
@@ -240,15 +246,15 @@ pub enum Cause {
     Unknown,
     /// Too many words, or too few.
     WordCount,
-    /// A caller after the 64th.
+    /// A caller behind [`MOST_CALLERS`] others.
     TooManyCallers,
     /// A query before the first caller.
     NoCaller,
     /// A word in a number's place that is no number.
     BadNumber,
-    /// A number of cells outside 1 to 64, or a cell that isn't there.
+    /// No cell or more than [`MOST_CELLS`], or a cell that isn't there.
     CellRange,
-    /// A query after the 1,000,000th.
+    /// A query behind [`MOST_QUERIES`] others.
     TooManyQueries,
 }
 

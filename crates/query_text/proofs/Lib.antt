@@ -6,3 +6,4 @@ pub mod Spellings
 pub mod Spots
 pub mod LogTexts
 mod Tallies
+pub mod DigitCounts

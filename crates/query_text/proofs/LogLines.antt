@@ -1,6 +1,5 @@
 -- A line of a log, made word by word.
-use Rattle.std.proofs.Common.{◌≡◌, ℕ, ◌+◌, ◌<◌, List, [], ◌∷◌, ◌++◌, sym, ap, ◌∙◌, append_assoc, append-nil, flat_map, codes, decimal}
-use Rattle.std.proofs.lemmas.Fmt.{decimal_digit}
+use Rattle.std.proofs.Common.{◌≡◌, ℕ, List, [], ◌∷◌, ◌++◌, sym, ap, ◌∙◌, append_assoc, append-nil, flat_map, codes, decimal}
 use Rattle.std.proofs.lemmas.List.Concat.{flat_map-append}
 use Rattle.query_rules.specs.declared.query.Query.{Query}
 use Rattle.query_rules.specs.declared.query.Reply.{Reply}
@@ -10,10 +9,6 @@ use Rattle.query_rules.specs.Words.{line_of}
 use Rattle.query_rules.specs.declared.query.Cause.{Cause}
 use Rattle.query_rules.specs.Log.{reply_words, answer_line, cause_word, refused_at, refused_length}
 use Rattle.query_text.specs.Spaced.{spaced, placed_bytes}
-
--- a number of one digit
-pub digit_line : (old : List ℕ) (n : ℕ) → n < 10 → (old ++ 32 ∷ []) ++ (48 + n) ∷ [] ≡ old ++ 32 ∷ decimal n
-digit_line old n few = append_assoc old (32 ∷ []) ((48 + n) ∷ []) ∙ ap (λ w. old ++ 32 ∷ w) (sym (decimal_digit n few))
 
 assoc_six : (x a b q e r : List ℕ) → ((((x ++ a) ++ b) ++ q) ++ e) ++ r ≡ x ++ (a ++ (b ++ (q ++ (e ++ r))))
 assoc_six x a b q e r = simp append_assoc

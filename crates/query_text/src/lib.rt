@@ -8,11 +8,13 @@
 //! Reading takes memory for the lists of queries alone, and writing takes none.
 #![tactic(auto)]
 
+mod digits;
 mod log;
 mod log_line;
 mod number;
 mod outcome;
 mod parse;
+mod query_list;
 mod refusal;
 mod script;
 mod script_line;
@@ -25,8 +27,8 @@ pub use number::numbers as word_numbers;
 pub use outcome::{Counts, Outcome};
 pub use parse::{ParseFault, parse_script};
 pub use query_rules::{
-    Cause, LedgerTold, LedgerTrouble, Query, Reply, Said, Section, Spot, Totals, Verb,
-    number as word_number,
+    Cause, LedgerTold, LedgerTrouble, MOST_CALLERS, MOST_CELLS, MOST_QUERIES, Query, Reply, Said,
+    Section, Spot, Totals, Verb, number as word_number,
 };
 pub use refusal::{Refusal, write_refusal};
 pub use script::{Callers, Script};

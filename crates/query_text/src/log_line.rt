@@ -6,24 +6,31 @@ ghost use Rattle.query_rules.specs.Log.{said_words, found_words, ledger_words, r
 ghost use Rattle.query_rules.specs.Verbs.{query_words};
 ghost use Rattle.query_text.specs.Spaced.{spaced, placed_bytes};
 
-use arrayvec::ArrayVec;
-use itoa::Buffer;
+use crate::digits::count_digits;
+use itoa::{Buffer, write_digits};
 use ql_base::{Failed, Sink, write_whole};
 use query_rules::{LedgerTold, LedgerTrouble, Query, Reply, Said};
 use std::marker::Model;
 
+/// The most bytes that a line has, its end among them.
+const MOST_BYTES: usize = 255;
+
 /// A line that is being made, without its end. It has room for 255 bytes, and lives on the stack.
 #[derive(Drop)]
 pub struct Line {
-    bytes: ArrayVec<u8, 255>,
+    bytes: [u8; MOST_BYTES],
+    // how many of the bytes are the line; the others are of lines before it
+    len: usize,
 }
 
 impl Model for Line {
-    ghost use Rattle.std.specs.Prelude.{List, ℕ};
+    ghost use Rattle.std.specs.Prelude.{◌≤◌, List, ℕ, take};
 
     ghost Value = { List ℕ };
 
-    ghost view = { λ l. l.bytes.items };
+    ghost view = { λ l. take l.len l.bytes };
+
+    ghost invariant = { λ l. l.len ≤ 255 };
 }
 
 impl Line {
@@ -32,9 +39,12 @@ impl Line {
         requires { length word.now ≤ 20 }
         ensures { result ≡ word.now }
     {
-        let mut bytes = ArrayVec::new();
-        let _ = bytes.try_extend_from_slice(word);
-        Line { bytes }
+        let mut line = Line {
+            bytes: [0; MOST_BYTES],
+            len: 0,
+        };
+        line.append(word);
+        line
     }
 
     // Makes it a line that begins with this word, in the place of what it was.
@@ -42,15 +52,26 @@ impl Line {
         requires { length word.now ≤ 20 }
         ensures { self.new ≡ word.now }
     {
-        self.bytes.clear();
-        let _ = self.bytes.try_extend_from_slice(word);
+        self.len = 0;
+        self.append(word);
     }
 
     /// The bytes of the line so far.
     pub fn as_bytes(&self) -> &[u8]
         ensures { result.now ≡ self.now }
     {
-        &self.bytes
+        &self.bytes[..self.len]
+    }
+
+    // Adds bytes as they are.
+    #[inline(always)]
+    fn append(&mut self, bytes: &[u8])
+        requires { length self.old + length bytes.now ≤ 255 }
+        ensures { self.new ≡ self.old ++ bytes.now }
+    {
+        let end = self.len + bytes.len();
+        self.bytes[self.len..end].copy_from_slice(bytes);
+        self.len = end;
     }
 
     /// Adds a word, behind a space. Where the word is known, its bytes are moved without a call.
@@ -60,25 +81,28 @@ impl Line {
         ensures line { self.new ≡ self.old ++ 32 ∷ word.now }
         ensures len { length self.new ≡ length self.old + 1 + length word.now }
     {
-        self.bytes.push(b' ');
-        let _ = self.bytes.try_extend_from_slice(word);
+        self.append(b" ");
+        self.append(word);
     }
 
     /// Adds a number, behind a space.
-    #[tactic(auto, using(crate::proofs::LogLines::digit_line))]
     pub fn number(&mut self, n: u64)
         requires { length self.old < 234 }
         ensures line { self.new ≡ self.old ++ 32 ∷ decimal n }
         ensures len { length self.new ≤ length self.old + 21 }
     {
-        // Cells and callers have mostly one digit.
-        if n < 10 {
-            self.bytes.push(b' ');
-            self.bytes.push(b'0' + n as u8);
-            return;
-        }
-        let mut buffer = Buffer::new();
-        self.word(buffer.format(n).as_bytes());
+        self.append(b" ");
+        self.digits(n);
+    }
+
+    // Adds a number as it is. Its digits are written where they stay.
+    fn digits(&mut self, n: u64)
+        requires { length self.old < 235 }
+        ensures { self.new ≡ self.old ++ decimal n }
+    {
+        let end = self.len + count_digits(n);
+        write_digits(n, &mut self.bytes, end);
+        self.len = end;
     }
 
     // Adds a sum, which may be twice as wide as a number.
@@ -266,8 +290,8 @@ impl Line {
         ensures bytes { Writes (K.written sink.old) (K.written sink.new) result (self.old ++ 10 ∷ []) }
         ensures cause { HasCause (K.faults sink.old) (K.faults sink.new) result }
     {
-        self.bytes.push(b'\n');
-        write_whole(sink, &self.bytes)
+        self.append(b"\n");
+        write_whole(sink, self.as_bytes())
     }
 
     /// Writes the line and its end, as one piece.

@@ -7,7 +7,7 @@ use query_rules::Reply;
 use std::marker::Model;
 
 /// The replies to each caller's queries.
-#[derive(Drop)]
+#[derive(Debug, Drop)]
 pub struct Outcome {
     lists: Vec<Vec<Reply>>,
 }
@@ -58,7 +58,7 @@ impl Outcome {
 }
 
 /// How many replies there are, and how many of each kind.
-#[derive(Clone, Copy, Debug)]
+#[derive(Clone, Copy, Debug, PartialEq, Eq)]
 pub struct Counts {
     pub queries: u64,
     pub writes: u64,

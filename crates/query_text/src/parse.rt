@@ -10,6 +10,8 @@ use crate::words::cut_line;
 use crate::{Callers, Script};
 use query_rules::Cause;
 use std::alloc::Global;
+use std::error::Error;
+use std::fmt;
 
 /// Why a text is no script.
 #[derive(Clone, Copy, Debug, PartialEq, Eq)]
@@ -18,6 +20,17 @@ pub enum ParseFault {
     Refused { line: u64, cause: Cause },
     NoMemory,
 }
+
+impl fmt::Display for ParseFault {
+    fn fmt<W: fmt::Write>(&self, f: &mut fmt::Formatter<W>) -> fmt::Result {
+        match *self {
+            ParseFault::Refused { line, cause } => write!(f, "line {line} is refused: {cause:?}"),
+            ParseFault::NoMemory => write!(f, "out of memory"),
+        }
+    }
+}
+
+impl Error for ParseFault {}
 
 /// The script that a text says, or its first bad line with that line's first cause.
 ///

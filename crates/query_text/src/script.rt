@@ -1,33 +1,34 @@
 // Scripts.
-ghost use Rattle.std.specs.Prelude.{◌≡◌, ◌∷◌, ◌++◌, ◌<◌, ◌^◌, [], length, OnOk, OnErr, get_or, sum_by, nat_le, map};
+ghost use Rattle.std.specs.Prelude.{◌≡◌, ◌∷◌, ◌++◌, ◌<◌, ◌^◌, [], length, OnOk, OnErr, get_or, sum_by, nat_le};
 ghost use Rattle.query_rules.specs.Grammar.{IsScript, with_query};
+ghost use Rattle.query_rules.specs.Maps.{writes_of};
+ghost use Rattle.query_rules.specs.Ledger.{jobs_of};
+ghost use Rattle.query_rules.specs.declared.query.TheConstants.{MOST_QUERIES};
 
+use crate::query_list::QueryList;
 use ql_base::NoMemory;
-use query_rules::Query;
+use query_rules::{MOST_QUERIES, Query};
 use std::alloc::Global;
 use std::marker::Model;
-
-/// The most queries that a script may have.
-pub const MOST_QUERIES: u64 = 1_000_000;
 
 /// The queries of some callers, a list for each.
 #[derive(Drop)]
 pub struct Callers {
     alloc: Global,
-    lists: Vec<Vec<Query>>,
+    lists: Vec<QueryList>,
     // how many queries there are; it stands still at the end of a u64
     total: u64,
 }
 
 impl Model for Callers {
-    ghost use Rattle.std.specs.Prelude.{◌≡◌, ◌-◌, ◌^◌, List, length, map, min, sum_by};
+    ghost use Rattle.std.specs.Prelude.{◌≡◌, ◌-◌, ◌^◌, List, length, min, sum_by};
     ghost use Rattle.query_rules.specs.declared.query.Query.{Query};
 
     ghost Value = { List (List Query) };
 
-    ghost view = { λ c. map (λ v. v.items) c.lists.items };
+    ghost view = { λ c. c.lists.items };
 
-    ghost invariant = { λ c. c.total ≡ min (sum_by length (map (λ v. v.items) c.lists.items)) (2 ^ 64 - 1) };
+    ghost invariant = { λ c. c.total ≡ min (sum_by length c.lists.items) (2 ^ 64 - 1) };
 }
 
 impl Callers {
@@ -54,12 +55,31 @@ impl Callers {
         requires { caller < length self.now }
         ensures { result.now ≡ get_or self.now caller [] }
     {
-        &self.lists[caller as usize]
+        let list = &self.lists[caller as usize];
+        list.queries()
+    }
+
+    /// How many queries of one caller may change a map. They were counted as they came.
+    pub fn writes(&self, caller: u64) -> u64
+        requires { caller < length self.now }
+        ensures { result ≡ writes_of (get_or self.now caller []) }
+    {
+        let list = &self.lists[caller as usize];
+        list.writes()
+    }
+
+    /// How many queries of one caller ask the ledger. They were counted as they came.
+    pub fn jobs(&self, caller: u64) -> u64
+        requires { caller < length self.now }
+        ensures { result ≡ jobs_of (get_or self.now caller []) }
+    {
+        let list = &self.lists[caller as usize];
+        list.jobs()
     }
 
     /// Whether there are as many queries as a script may have.
     pub fn is_full(&self) -> bool
-        ensures { result ≡ nat_le 1000000 (sum_by length self.now) }
+        ensures { result ≡ nat_le MOST_QUERIES (sum_by length self.now) }
     {
         self.total >= MOST_QUERIES
     }
@@ -69,7 +89,7 @@ impl Callers {
         ensures ok { OnOk result (self.new ≡ self.old ++ [] ∷ []) }
         ensures err { OnErr result (self.new ≡ self.old) }
     {
-        self.lists.push(Vec::new(self.alloc))?;
+        self.lists.push(QueryList::new(self.alloc))?;
         Ok(())
     }
 
@@ -80,15 +100,16 @@ impl Callers {
         ensures err { OnErr result (self.new ≡ self.old) }
     {
         let last = self.lists.len() - 1;
-        self.lists[last].push(query)?;
+        let list = &mut self.lists[last];
+        list.add(query)?;
         self.total = self.total.saturating_add(1);
         Ok(())
     }
 }
 
 /// A script: a number of cells, and what each caller asks. It is always one that some text says:
-/// 1 to 64 cells, at most 64 callers and 1,000,000 queries, and no query names a cell that isn't
-/// there.
+/// 1 to `MOST_CELLS` cells, at most `MOST_CALLERS` callers and `MOST_QUERIES` queries, and no query
+/// names a cell that isn't there.
 #[derive(Drop)]
 pub struct Script {
     cells: u64,

@@ -9,7 +9,7 @@ use crate::Callers;
 use crate::number::numbers;
 use crate::words::spelled_words;
 use ql_base::NoMemory;
-use query_rules::{Cause, MOST_CALLERS, Verb};
+use query_rules::{Cause, MOST_CALLERS, MOST_CELLS, Verb};
 
 /// Why a line was not taken.
 #[derive(Clone, Copy, Debug, PartialEq, Eq)]
@@ -49,7 +49,7 @@ fn cells_line(words: &[&[u8]]) -> Result<u64, Cause>
         return Err(Cause::BadNumber);
     };
     let cells = numbers.first().copied().unwrap_or(0);
-    if cells == 0 || cells > 64 {
+    if cells == 0 || cells > MOST_CELLS {
         return Err(Cause::CellRange);
     }
     Ok(cells)

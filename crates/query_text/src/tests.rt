@@ -1,5 +1,5 @@
 //! What no clause says: that parsing succeeds with ample memory, and worked examples.
-use crate::{Cause, ParseFault, Totals, parse_script, write_soak};
+use crate::{Cause, MOST_CALLERS, ParseFault, Totals, parse_script, write_soak};
 use ql_base::MemSink;
 use std::alloc::{AllocError, Global};
 
@@ -35,19 +35,19 @@ fn idle_callers(alloc: Global, callers: u64) -> Result<Vec<u8>, AllocError> {
 }
 
 #[test]
-fn the_64th_caller_is_taken(rt: HostRuntime) -> Result<(), AllocError> {
-    let Ok(script) = parse_script(rt.alloc(), &idle_callers(rt.alloc(), 64)?) else {
+fn the_last_caller_that_may_be_is_taken(rt: HostRuntime) -> Result<(), AllocError> {
+    let Ok(script) = parse_script(rt.alloc(), &idle_callers(rt.alloc(), MOST_CALLERS)?) else {
         return Err(AllocError);
     };
-    assert_eq!(rt; script.callers().count(), 64);
+    assert_eq!(rt; script.callers().count(), MOST_CALLERS);
     Ok(())
 }
 
 #[test]
-fn the_65th_caller_is_refused(rt: HostRuntime) -> Result<(), AllocError> {
-    let fault = parse_script(rt.alloc(), &idle_callers(rt.alloc(), 65)?).err();
+fn one_caller_more_is_refused(rt: HostRuntime) -> Result<(), AllocError> {
+    let fault = parse_script(rt.alloc(), &idle_callers(rt.alloc(), MOST_CALLERS + 1)?).err();
     let expected = ParseFault::Refused {
-        line: 66,
+        line: MOST_CALLERS + 2,
         cause: Cause::TooManyCallers,
     };
     assert_eq!(rt; fault, Some(expected));

@@ -1,24 +1,16 @@
 -- What the own lists of passes have of the replies of an outcome.
-use Rattle.std.specs.Prelude.{ℕ, ◌+◌, ◌/◌, List, [], ◌∷◌, ◌++◌, Some, None, count_by, is_some, if◌then◌else◌}
+use Rattle.std.specs.Prelude.{ℕ, ◌+◌, ◌/◌, List, [], ◌∷◌, ◌++◌, Some, None, if◌then◌else◌}
 use Rattle.std.specs.declared.option.Option.{Option}
 use Rattle.query_rules.specs.declared.query.Query.{Query}
 use Rattle.query_rules.specs.declared.query.LedgerAct.{LedgerAct}
 use Rattle.query_rules.specs.declared.query.Reply.{Reply}
 use Rattle.query_rules.specs.declared.query.Reply.TheVariants.{Placed, Busy, Late, Job}
-use Rattle.query_rules.specs.Maps.{is_write, may_write}
+use Rattle.query_rules.specs.Maps.{is_write}
 use Rattle.query_rules.specs.Ledger.{LedgerResult, act_of}
 use Rattle.map_cargo.specs.declared.entry.Entry.{Entry}
 use Rattle.map_cargo.specs.declared.entry.Told.{Told}
 use Rattle.map_cargo.specs.declared.entry.Told.TheVariants.{Wrote, Read, Refused}
 use Rattle.query_cells.specs.Asked.{LedgerRun, entry_for, answer_for}
-
--- how many of these ask the ledger
-abbrev pub jobs_of : List Query → ℕ
-jobs_of queries = count_by (λ (q : Query). is_some (act_of q)) queries
-
--- how many of these may be a write
-abbrev pub writes_of : List Query → ℕ
-writes_of queries = count_by may_write queries
 
 -- what a pass of the hall tells of a reply that stands behind n writes
 abbrev pub told_as : ℕ → Entry → Told

@@ -2,6 +2,7 @@
 ghost use Rattle.std.specs.Prelude.{◌≡◌, ◌≤◌, ◌<◌, ◌++◌, ◌∷◌, [], IfOk, OnOk};
 ghost use Rattle.query_rules.specs.Soak.{soak_from, share, soak_script};
 ghost use Rattle.query_rules.specs.Soak as rules;
+ghost use Rattle.query_rules.specs.declared.query.TheConstants.{MOST_QUERIES};
 
 use ql_base::NoMemory;
 use query_text::{Callers, Query, Script};
@@ -11,9 +12,9 @@ const CELLS: u64 = 8;
 
 const CALLERS: u64 = 4;
 
-/// The script of a soak of `count` queries, 1,000,000 at most, which four callers ask in turn.
+/// The script of a soak of `count` queries, at most `MOST_QUERIES`, which four callers ask in turn.
 pub fn make_soak(alloc: Global, count: u64) -> Result<Script, NoMemory>
-    requires { count ≤ 1000000 }
+    requires { count ≤ MOST_QUERIES }
     ensures { IfOk result (λ script. script ≡ soak_script count) }
 {
     let mut callers = Callers::new(alloc);
@@ -25,7 +26,7 @@ pub fn make_soak(alloc: Global, count: u64) -> Result<Script, NoMemory>
 
 // Adds a caller with its share of the queries: every fourth one, beginning with its own number.
 fn add_caller(callers: &mut Callers, count: u64, caller: u64) -> Result<(), NoMemory>
-    requires count { count ≤ 1000000 }
+    requires count { count ≤ MOST_QUERIES }
     requires caller { caller < 4 }
     ensures { OnOk result (callers.new ≡ callers.old ++ soak_from caller 0 (share count caller) ∷ []) }
 {
@@ -39,7 +40,7 @@ fn add_caller(callers: &mut Callers, count: u64, caller: u64) -> Result<(), NoMe
 
 // The query with this number among those of all callers.
 fn soak_query(j: u64) -> Query
-    requires { j < 1000000 }
+    requires { j < MOST_QUERIES }
     ensures { result ≡ rules.soak_query j }
 {
     let a = j / CALLERS;

@@ -6,6 +6,7 @@ ghost use Rattle.query_rules.specs.Log.{is_counted};
 ghost use Rattle.query_rules.specs.Soak.{soak_script, soak_totals};
 ghost use Rattle.query_rules.specs.declared.query.Total.TheVariants as total;
 ghost use Rattle.soak_laws.specs.Totals as laws;
+ghost use Rattle.query_rules.specs.declared.query.TheConstants.{MOST_QUERIES};
 
 use query_text::{Outcome, Query, Reply, Script, Totals};
 use soak_laws::a_soak_has_one_summary;
@@ -16,7 +17,7 @@ use soak_laws::a_soak_has_one_summary;
 ///
 /// It goes over the replies twice, and takes no memory.
 pub fn sum_up(count: u64, script: &Script, outcome: &Outcome) -> Totals
-    requires count { count ≤ 1000000 }
+    requires count { count ≤ MOST_QUERIES }
     requires script { script.now ≡ soak_script count }
     requires history { IsHistory 16 script.now.callers outcome.now }
     ensures { result ≡ soak_totals count }

@@ -10,6 +10,7 @@ use Rattle.query_rules.specs.Ledger.{no_accounts, run_all, sum_of}
 use Rattle.query_rules.specs.History.{IsHistory, entries, replay}
 use Rattle.query_rules.specs.Log.{is_counted, totals_of}
 use Rattle.query_rules.specs.Soak.{sum_below, soak_callers, soak_totals, counts_in}
+use Rattle.query_rules.specs.declared.query.TheConstants.{MOST_QUERIES}
 
 -- the sum of the values of these keys in these cells, the first ones
 abbrev pub sum_of_maps : ℕ → ℕ → Maps → ℕ
@@ -47,4 +48,4 @@ pub record ComesTo (cells rows : ℕ) (callers : List (List Query)) (told : List
 
 -- every history of the soak comes to the same
 abbrev pub SoakHasOneSummary : Type 0
-SoakHasOneSummary = (count : ℕ) → count ≤ 1000000 → (told : List (List Reply)) → (h : IsHistory 16 (soak_callers count) told) → ComesTo 8 16 (soak_callers count) told h (soak_totals count)
+SoakHasOneSummary = (count : ℕ) → count ≤ MOST_QUERIES → (told : List (List Reply)) → (h : IsHistory 16 (soak_callers count) told) → ComesTo 8 16 (soak_callers count) told h (soak_totals count)
