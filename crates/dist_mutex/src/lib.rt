@@ -23,3 +23,7 @@ pub mod release;
 #[cfg(test)]
 mod tests;
 pub mod timed;
+
+pub use mutex::DistMutex;
+pub use owner::{Next, Owner, Released};
+pub use pass::DistPass;
