@@ -21,7 +21,7 @@ use Rattle.combine_job.specs.Parcels.{Related, Ruled, all_own}
 use Rattle.combine_job.proofs.Positions.{history-once}
 use Rattle.chain_laws.specs.Laws.{AnswersOnce, AnswersEachOnce}
 
-total-map : {A B : Type 0} (f : A → B) (w : B → ℕ) (l : List A) → total w (map f l) ≡ total (λ a. w (f a)) l
+pub total-map : {A B : Type 0} (f : A → B) (w : B → ℕ) (l : List A) → total w (map f l) ≡ total (λ a. w (f a)) l
 total-map f w [] = refl
 total-map f w (x ∷ xs) = omega (arith, total-map f w xs)
 
@@ -29,7 +29,7 @@ module _ {P : Type 0} (rule : Goods P → Type 0) (nodes : ℕ) (s : State (Opti
   abbrev at : ℕ → Desk P
   at = desk s.words s.homes o.posted o.answered
 
-  answer_waits : (j b : ℕ) (v : View P) (job : P) → get_elem? s.views j ≡ some v → v.stage ≡ Behind b (Some job) → status_at s.words v.number ≡ 3
+  pub answer_waits : (j b : ℕ) (v : View P) (job : P) → get_elem? s.views j ≡ some v → v.stage ≡ Behind b (Some job) → status_at s.words v.number ≡ 3
       → (a : P) × (o.answered v.number ≡ some (job, a)) × Filled (get_elem? s.homes (2 + 2 * v.number)) a
   answer_waits j b v job there mine three =
       let n : ℕ = v.number in
@@ -49,7 +49,7 @@ module _ {P : Type 0} (rule : Goods P → Type 0) (nodes : ℕ) (s : State (Opti
       absurd (let g : Held nodes s.words s.homes at o.older o.newer o.value (granted n b t.1 t.0) = subst (λ y. Held nodes s.words s.homes at o.older o.newer o.value y) t.2 o.held in omega (arith, g.1.0, three))))
       (place rule nodes s o j b v (Some job) there mine)
 
-  answer_taken : (j : ℕ) (v : View P) (job a : P) → get_elem? s.views j ≡ some v → v.gone ≡ false → v.stage ≡ Done job a → o.answered v.number ≡ some (job, a)
+  pub answer_taken : (j : ℕ) (v : View P) (job a : P) → get_elem? s.views j ≡ some v → v.gone ≡ false → v.stage ≡ Done job a → o.answered v.number ≡ some (job, a)
   answer_taken j v job a there here mine = (subst (λ (g : Stage P). Seated g (at v.number)) mine (o.seated j v there here)).3
 
 module _ {V J O X : Type 0} (rooms : V → ℕ) (means : V → J → Result O X → V → Type 0) (is_ready : J → Type 0) where

@@ -1,10 +1,9 @@
 //! Jobs on an account.
 ghost use Rattle.std.specs.Prelude.{◌≡◌, ◌+◌, ◌*◌, ◌≤◌, [], Some};
-ghost use Rattle.waiter_chain.specs.Calls.{IsIdle, Won};
-ghost use Rattle.waiter_chain.specs.declared.view.Entry.{Entry};
+ghost use Rattle.waiter_chain.specs.Calls.{IsIdle, HasTurn, MayEnd};
 ghost use Rattle.waiter_chain.specs.declared.view.Stage.TheVariants.{Behind};
 ghost use Rattle.combine_job.specs.Parcels.{Related, Ruled};
-ghost use Rattle.combine_job.specs.Combining.{HasJob, HasValue};
+ghost use Rattle.combine_job.specs.Combining.{HasJob};
 
 use crate::combining::{collect, post, run_posted};
 use crate::job::{Job, Room};
@@ -54,11 +53,12 @@ fn withdraw(account: &mut Account, amount: u64) -> Result<u64, Short>
 }
 
 #[derive(Drop)]
-struct Take {
-    amount: u64,
+enum Order {
+    Take(u64),
+    Give(u64),
 }
 
-impl Job<Account> for Take {
+impl Job<Account> for Order {
     type Out = u64;
 
     type Fault = Short;
@@ -68,7 +68,14 @@ impl Job<Account> for Take {
     ghost is_ready = { λ j. Unit {0} };
 
     fn run(self, value: &mut Account) -> Result<u64, Short> {
-        withdraw(value, self.amount)
+        match self {
+            Order::Take(amount) => withdraw(value, amount),
+            Order::Give(amount) => {
+                value.left -= 1;
+                value.balance = value.balance.saturating_add(amount);
+                Ok(value.balance)
+            }
+        }
     }
 }
 
@@ -82,11 +89,11 @@ fn a_refusal_is_counted(rt: HostRuntime) -> Result<(), Fail> {
         ran: 0,
     };
     assert!(rt; kept.value.room() == 3);
-    let answer = run_kept(&mut kept, Take { amount: 4 });
+    let answer = run_kept(&mut kept, Order::Take(4));
     assert!(rt; answer.at == 0 && answer.result == Err(Short { balance: 0 }));
     assert!(rt; kept.ran == 1);
     kept.value.balance = 10;
-    let answer = run_kept(&mut kept, Take { amount: 4 });
+    let answer = run_kept(&mut kept, Order::Take(4));
     assert!(rt; answer.at == 1 && answer.result == Ok(6));
     assert!(rt; kept.ran == 2 && kept.value.balance == 6);
     Ok(())
@@ -108,7 +115,25 @@ fn a_closure_answers_as_the_job(rt: HostRuntime) -> Result<(), Fail> {
     Ok(())
 }
 
-// The owner, which has run nothing, finds a node that waits with a job and has linked, and takes its slots.
+// A pass takes the free lock.
+fn own<A: Abort, V: Room, J: Job<V>>(
+    rt: &A,
+    chain: &Chain<Parcel<V, J>>,
+    pass: &mut ChainPass<Parcel<V, J>>,
+) -> Turn
+    requires own { pass.old.seat.table_id ≡ chain.now.table.shared.table_id }
+    requires idle { IsIdle pass.old.seat.me }
+    ensures own { pass.new.seat.table_id ≡ pass.old.seat.table_id }
+    ensures turn { HasTurn chain.now.table.shared.table_id.slots result pass.new.seat.me }
+    ensures ends { MayEnd (Related V.rooms J.means) 0 [] pass.new.seat.me }
+{
+    match chain.try_in(pass) {
+        Ok(turn) => turn,
+        Err(_busy) => panic!(rt; "the lock was taken"),
+    }
+}
+
+// The owner finds a node that waits with a job and has linked, and takes its slots.
 fn find_job<A: Abort, V: Room, J: Job<V>>(
     rt: &A,
     chain: &Chain<Parcel<V, J>>,
@@ -116,7 +141,8 @@ fn find_job<A: Abort, V: Room, J: Job<V>>(
     turn: Turn,
 ) -> (Turn, u64)
     requires own { pass.old.seat.table_id ≡ chain.now.table.shared.table_id }
-    requires won { (m : _) × (e : Entry) × Won (Ruled V.rooms J.means J.is_ready chain.now.table.shared.key) chain.now.table.shared.table_id.slots turn m e pass.old.seat.me }
+    requires turn { HasTurn chain.now.table.shared.table_id.slots turn pass.old.seat.me }
+    requires ends { MayEnd (Related V.rooms J.means) 0 [] pass.old.seat.me }
     ensures own { pass.new.seat.table_id ≡ pass.old.seat.table_id }
     ensures found { HasJob (Related V.rooms J.means) (Ruled V.rooms J.means J.is_ready chain.now.table.shared.key) chain.now.table.shared.table_id.slots 0 [] result.0 result.1 pass.new.seat.me }
 {
@@ -136,39 +162,41 @@ fn find_job<A: Abort, V: Room, J: Job<V>>(
     }
 }
 
-// It takes the value and runs that job.
+// It takes the value, runs that job, and puts the value back.
 fn run_found<V: Room, J: Job<V>>(
     chain: &Chain<Parcel<V, J>>,
     pass: &mut ChainPass<Parcel<V, J>>,
     turn: Turn,
     link: u64,
-) -> (Turn, Kept<V>)
+) -> Turn
     requires own { pass.old.seat.table_id ≡ chain.now.table.shared.table_id }
     requires found { HasJob (Related V.rooms J.means) (Ruled V.rooms J.means J.is_ready chain.now.table.shared.key) chain.now.table.shared.table_id.slots 0 [] turn link pass.old.seat.me }
     ensures own { pass.new.seat.table_id ≡ pass.old.seat.table_id }
-    ensures ran { HasValue chain.now.table.shared.table_id.slots result.0 result.1 pass.new.seat.me }
+    ensures turn { HasTurn chain.now.table.shared.table_id.slots result pass.new.seat.me }
+    ensures ends { MayEnd (Related V.rooms J.means) 0 [] pass.new.seat.me }
 {
     let none = OwnRuns::<Parcel<V, J>>::new();
     let value = chain.move_slot(pass, 0, None);
     let kept = value.unwrap().into_kept();
-    run_posted(chain, pass, turn, link, kept, &none)
+    let (turn, kept) = run_posted(chain, pass, turn, link, kept, &none);
+    let _empty = chain.move_slot(pass, 0, Some(Parcel::Value(kept)));
+    turn
 }
 
-// It puts the value back and frees the lock.
+// It frees the lock.
 fn give_up<A: Abort, V: Room, J: Job<V>>(
     rt: &A,
     chain: &Chain<Parcel<V, J>>,
     pass: &mut ChainPass<Parcel<V, J>>,
     turn: Turn,
-    kept: Kept<V>,
 )
     requires own { pass.old.seat.table_id ≡ chain.now.table.shared.table_id }
-    requires has { HasValue chain.now.table.shared.table_id.slots turn kept pass.old.seat.me }
+    requires turn { HasTurn chain.now.table.shared.table_id.slots turn pass.old.seat.me }
+    requires ends { MayEnd (Related V.rooms J.means) 0 [] pass.old.seat.me }
     ensures own { pass.new.seat.table_id ≡ pass.old.seat.table_id }
     ensures idle { IsIdle pass.new.seat.me }
 {
     let none = OwnRuns::<Parcel<V, J>>::new();
-    let _empty = chain.move_slot(pass, 0, Some(Parcel::Value(kept)));
     match chain.next(pass, turn, &none) {
         Follow::Free => {}
         Follow::Waits {
@@ -198,6 +226,24 @@ fn wait_with<A: Abort, V: Room, J: Job<V>>(
     }
 }
 
+// It finds that its job has not run.
+fn still_waits<A: Abort, V: Room, J: Job<V>>(
+    rt: &A,
+    chain: &Chain<Parcel<V, J>>,
+    pass: &mut ChainPass<Parcel<V, J>>,
+)
+    requires own { pass.old.seat.table_id ≡ chain.now.table.shared.table_id }
+    requires waits { (job : _) × (pass.old.seat.me.0.stage ≡ Behind pass.old.behind (Some job)) × (pass.old.seat.me.1 ≡ []) }
+    ensures own { pass.new.seat.table_id ≡ pass.old.seat.table_id }
+    ensures waits { (job : _) × (pass.new.seat.me.0.stage ≡ Behind pass.new.behind (Some job)) × (pass.new.seat.me.1 ≡ []) }
+{
+    match chain.poll(pass) {
+        Polled::Still { word } => assert!(rt; word == 2),
+        Polled::Owner(_turn) => panic!(rt; "it was granted"),
+        Polled::Done => panic!(rt; "its job has run"),
+    }
+}
+
 // It finds its job done.
 fn answer_of<A: Abort, V: Room, J: Job<V>>(
     rt: &A,
@@ -217,37 +263,43 @@ fn answer_of<A: Abort, V: Room, J: Job<V>>(
 }
 
 #[test]
-fn the_owner_runs_a_posted_job(rt: HostRuntime) -> Result<(), Fail> {
+fn an_owner_pauses_while_it_has_a_job_in_hand(rt: HostRuntime) -> Result<(), Fail> {
     let account = Account {
-        balance: 10,
-        left: 1,
+        balance: 0,
+        left: 2,
     };
-    let first = Parcel::<Account, Take>::Value(Kept {
+    let first = Parcel::<Account, Order>::Value(Kept {
         value: account,
         ran: 0,
     });
-    let (chain, mut zero) = Chain::make(rt.alloc(), 2, 1, 64, first)?;
+    let (chain, mut zero) = Chain::make(rt.alloc(), 3, 2, 64, first)?;
+    let mut two = chain.split(&mut zero, 1, 1);
     let mut one = chain.split(&mut zero, 1, 1);
-    let turn = match chain.try_in(&mut zero) {
-        Ok(turn) => turn,
-        Err(_busy) => panic!(rt; "the lock was taken"),
-    };
-    wait_with(&rt, &chain, &mut one, Take { amount: 4 });
-    assert!(rt; one.quota() == 0);
+    let turn = own(&rt, &chain, &mut zero);
+    wait_with(&rt, &chain, &mut one, Order::Give(10));
+
+    // The owner has node 1's job in its hand and stops: node 1 waits, and who comes stands in the next chain.
     let (turn, link) = find_job(&rt, &chain, &mut zero, turn);
     assert!(rt; turn.node() == 1 && link == 1);
-    let (turn, kept) = run_found(&chain, &mut zero, turn, link);
-    assert!(rt; kept.ran == 1 && kept.value.balance == 6);
-    give_up(&rt, &chain, &mut zero, turn, kept);
+    still_waits(&rt, &chain, &mut one);
+    wait_with(&rt, &chain, &mut two, Order::Take(100));
+
+    // It goes on, and node 1 has its answer before the owner gives the lock up.
+    let turn = run_found(&chain, &mut zero, turn, link);
     let answer = answer_of(&rt, &chain, &mut one);
-    assert!(rt; answer.at == 0 && answer.result == Ok(6));
+    assert!(rt; answer.at == 0 && answer.result == Ok(10));
+    let (turn, link) = find_job(&rt, &chain, &mut zero, turn);
+    assert!(rt; turn.node() == 2 && link == 1);
+    let turn = run_found(&chain, &mut zero, turn, link);
+    give_up(&rt, &chain, &mut zero, turn);
+    let answer = answer_of(&rt, &chain, &mut two);
+    assert!(rt; answer.at == 1 && answer.result == Err(Short { balance: 10 }));
     chain.join(&mut zero, one);
+    chain.join(&mut zero, two);
     let (value, _retired) = chain.close(zero);
     match value {
-        Some(Parcel::Value(kept)) => assert!(rt; kept.ran == 1 && kept.value.balance == 6),
-        Some(Parcel::Posted(_job)) => panic!(rt; "a job stands in slot 0"),
-        Some(Parcel::Answered(_answer)) => panic!(rt; "an answer stands in slot 0"),
-        None => panic!(rt; "the value is lost"),
+        Some(Parcel::Value(kept)) => assert!(rt; kept.ran == 2 && kept.value.balance == 10),
+        _ => panic!(rt; "the value is lost"),
     }
     Ok(())
 }

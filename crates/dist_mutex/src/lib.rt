@@ -1,7 +1,7 @@
 //! An exclusive lock over a value, after Folly's `DistributedMutex`: a waiter queues in a chain by one swap and then
 //! waits on a word of its own, and the owner runs jobs on the value, each at its own position. Where Folly's lock runs a
-//! waiter's critical section on the owner's thread, this one runs its job; until that stands here, each pass runs its
-//! own jobs.
+//! waiter's critical section on the owner's thread, this one runs its job: `lock_combine` posts it, and an owner that
+//! gives the lock up runs those of waiting nodes, up to the limit that the lock was made with.
 //!
 //! The crate stands on `waiter_chain` for the lock and on `combine_job` for the jobs. An owner has the value in its
 //! hand, and puts it back as the lock is given up.
@@ -23,3 +23,7 @@ pub mod release;
 #[cfg(test)]
 mod tests;
 pub mod timed;
+
+pub use mutex::DistMutex;
+pub use owner::{Next, Owner, Released};
+pub use pass::DistPass;

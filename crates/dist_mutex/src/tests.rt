@@ -1,17 +1,23 @@
 //! The distributed lock at work: who owns it in which order, jobs of an account, and waits with a deadline.
-ghost use Rattle.std.specs.Prelude.{◌≡◌, ◌+◌, ◌≤◌, length, [], None};
+ghost use Rattle.std.specs.Prelude.{◌≡◌, ◌+◌, ◌≤◌, length, [], Some, None};
 ghost use Rattle.waiter_chain.specs.Calls.{IsBehind, PolledAs};
+ghost use Rattle.waiter_chain.specs.declared.view.Stage.TheVariants.{Behind};
+ghost use Rattle.combine_job.specs.declared.parcel.Parcel.TheVariants.{Posted};
 ghost use Rattle.combine_job.specs.Parcels.{Ruled};
 ghost use Rattle.dist_mutex.specs.Owners.{IsFree};
-ghost use Rattle.dist_mutex.specs.Passes.{opening_of, slots_of, dist_state, runs_of, IsDistPassOf, IsSamePass};
+ghost use Rattle.dist_mutex.specs.Passes.{opening_of, slots_of, dist_state, dist_view, runs_of, IsDistPassOf, IsSamePass, IsAtRest};
 
 use crate::mutex::DistMutex;
-use crate::owner::Next;
+use crate::owner::{Next, Released};
 use crate::pass::DistPass;
+use combine_job::combining::post;
 use combine_job::job::{Job, Room};
+use combine_job::parcel::{JobAnswer, Parcel};
 use ql_base::{Clock, ListClock};
+use std::process::Abort;
+use std::sync::Wait;
 use std::test::Fail;
-use waiter_chain::turn::{Entered, Kind, Polled};
+use waiter_chain::turn::{Arrived, Entered, Kind, Polled};
 
 /// A sum of money, and how many jobs it can still take.
 #[derive(Drop)]
@@ -100,6 +106,80 @@ fn poll_plain<V: Room, J: Job<V>>(bank: &DistMutex<V, J>, clerk: &mut DistPass<V
     ensures answer { PolledAs (Ruled V.rooms J.means J.is_ready (opening_of bank.now)) (slots_of bank.now) clerk.old.pass.behind None (dist_state clerk.old) (dist_state clerk.new) result }
 {
     bank.chain.poll(&mut clerk.pass)
+}
+
+// A clerk posts this order behind another clerk, and waits.
+fn wait_with<A: Abort, V: Room, J: Job<V>>(
+    rt: &A,
+    bank: &DistMutex<V, J>,
+    clerk: &mut DistPass<V, J>,
+    job: J,
+)
+    requires own { IsDistPassOf bank.now clerk.old }
+    requires idle { IsAtRest clerk.old }
+    requires quota { 1 ≤ (dist_view clerk.old).quota }
+    requires ready { J.is_ready job }
+    ensures own { IsDistPassOf bank.now clerk.new }
+    ensures runs { runs_of clerk.new ≡ [] }
+    ensures waits { ((dist_view clerk.new).stage ≡ Behind clerk.new.pass.behind (Some (Posted job))) × ((dist_state clerk.new).1 ≡ []) }
+{
+    match post(&bank.chain, &mut clerk.pass, job) {
+        Arrived::Owner(_turn) => panic!(rt; "the lock was free"),
+        Arrived::Waiting => {}
+    }
+}
+
+// A clerk posts this order behind another clerk, and has not said yet whom it is behind.
+fn enter_with<A: Abort, V: Room, J: Job<V>>(
+    rt: &A,
+    bank: &DistMutex<V, J>,
+    clerk: &mut DistPass<V, J>,
+    job: J,
+)
+    requires own { IsDistPassOf bank.now clerk.old }
+    requires idle { IsAtRest clerk.old }
+    requires quota { 1 ≤ (dist_view clerk.old).quota }
+    requires ready { J.is_ready job }
+    ensures own { IsDistPassOf bank.now clerk.new }
+    ensures runs { runs_of clerk.new ≡ [] }
+    ensures waits { ((dist_view clerk.new).stage ≡ Behind clerk.new.pass.behind (Some (Posted job))) × ((dist_state clerk.new).1 ≡ []) }
+{
+    let slot = 1 + 2 * clerk.number();
+    bank.chain.hold(&mut clerk.pass);
+    let _empty = bank
+        .chain
+        .move_slot(&mut clerk.pass, slot, Some(Parcel::Posted(job)));
+    match bank.chain.enter(&mut clerk.pass, Kind::WithJob) {
+        Entered::Owner(_turn) => panic!(rt; "the lock was free"),
+        Entered::Behind => {}
+    }
+}
+
+// It says it late.
+fn link_late<V: Room, J: Job<V>>(bank: &DistMutex<V, J>, clerk: &mut DistPass<V, J>)
+    requires own { IsDistPassOf bank.now clerk.old }
+    requires runs { runs_of clerk.old ≡ [] }
+    requires waits { (job : J) × ((dist_view clerk.old).stage ≡ Behind clerk.old.pass.behind (Some (Posted job))) × ((dist_state clerk.old).1 ≡ []) }
+    ensures own { IsDistPassOf bank.now clerk.new }
+    ensures runs { runs_of clerk.new ≡ [] }
+    ensures waits { (job : J) × ((dist_view clerk.new).stage ≡ Behind clerk.new.pass.behind (Some (Posted job))) × ((dist_state clerk.new).1 ≡ []) }
+{
+    bank.chain.link(&mut clerk.pass);
+}
+
+// The clerk finds that its order has run, or runs it as the owner.
+fn settle<R: Wait, V: Room, J: Job<V>>(
+    rt: &R,
+    bank: &DistMutex<V, J>,
+    clerk: &mut DistPass<V, J>,
+) -> JobAnswer<J::Out, J::Fault>
+    requires own { IsDistPassOf bank.now clerk.old }
+    requires runs { runs_of clerk.old ≡ [] }
+    requires waits { (job : J) × ((dist_view clerk.old).stage ≡ Behind clerk.old.pass.behind (Some (Posted job))) × ((dist_state clerk.old).1 ≡ []) }
+    ensures own { IsDistPassOf bank.now clerk.new }
+    ensures idle { IsAtRest clerk.new }
+{
+    bank.await_answer(rt, clerk)
 }
 
 fn an_account(jobs: u64) -> Account
@@ -206,6 +286,84 @@ fn waiters_get_the_lock_in_turn(rt: HostRuntime) -> Result<(), Fail> {
     assert!(rt; retired.combine() == 64);
     match kept {
         Some(kept) => assert!(rt; kept.ran == 0 && kept.value.balance == 0),
+        None => panic!(rt; "the value is lost"),
+    }
+    Ok(())
+}
+
+// Three clerks post an order each, and the owner gives the lock up: how that went. Whoever runs the orders, the newest is the
+// first.
+fn three_orders<R: Abort + AllocGlobal + Wait>(rt: &R, combine: u32) -> Result<Released, Fail> {
+    let (bank, mut zero) = Bank::make(rt.alloc(), 4, 3, combine, an_account(3))?;
+    let mut three = bank.split(&mut zero, 1, 1);
+    let mut two = bank.split(&mut zero, 1, 1);
+    let mut one = bank.split(&mut zero, 1, 1);
+    let owner = match bank.try_lock(&mut zero) {
+        Ok(owner) => owner,
+        Err(_busy) => panic!(rt; "the lock was taken"),
+    };
+    wait_with(rt, &bank, &mut one, Order::Take(4));
+    wait_with(rt, &bank, &mut two, Order::Take(100));
+    wait_with(rt, &bank, &mut three, Order::Give(10));
+    let released = bank.unlock(&mut zero, owner);
+    let last = settle(rt, &bank, &mut three);
+    assert!(rt; last.at == 0 && last.result == Ok(10));
+    let second = settle(rt, &bank, &mut two);
+    assert!(rt; second.at == 1 && second.result == Err(Refusal::Short(10)));
+    let first = settle(rt, &bank, &mut one);
+    assert!(rt; first.at == 2 && first.result == Ok(6));
+    bank.join(&mut zero, one);
+    bank.join(&mut zero, two);
+    bank.join(&mut zero, three);
+    let (kept, _retired) = bank.close(zero);
+    match kept {
+        Some(kept) => assert!(rt; kept.ran == 3 && kept.value.balance == 6),
+        None => panic!(rt; "the value is lost"),
+    }
+    Ok(released)
+}
+
+#[test]
+fn an_owner_runs_the_orders_of_others_up_to_a_limit(rt: HostRuntime) -> Result<(), Fail> {
+    let all = three_orders(&rt, 64)?;
+    match all.next {
+        Next::Free => assert!(rt; all.combined == 3),
+        _ => panic!(rt; "a node was made the owner"),
+    }
+    let one = three_orders(&rt, 1)?;
+    match one.next {
+        Next::Spent(node) => assert!(rt; one.combined == 1 && node == 2),
+        _ => panic!(rt; "not at the limit"),
+    }
+    let none = three_orders(&rt, 0)?;
+    match none.next {
+        Next::Spent(node) => assert!(rt; none.combined == 0 && node == 3),
+        _ => panic!(rt; "not at the limit"),
+    }
+    Ok(())
+}
+
+#[test]
+fn a_clerk_that_links_late_runs_its_own_order(rt: HostRuntime) -> Result<(), Fail> {
+    let (bank, mut zero) = Bank::make(rt.alloc(), 2, 1, 64, an_account(1))?;
+    let mut one = bank.split(&mut zero, 1, 1);
+    let owner = match bank.try_lock(&mut zero) {
+        Ok(owner) => owner,
+        Err(_busy) => panic!(rt; "the lock was taken"),
+    };
+    enter_with(&rt, &bank, &mut one, Order::Give(10));
+    let released = bank.unlock(&mut zero, owner);
+    match released.next {
+        Next::Unlinked(node) => assert!(rt; released.combined == 0 && node == 1),
+        _ => panic!(rt; "node 1 had linked"),
+    }
+    link_late(&bank, &mut one);
+    let answer = settle(&rt, &bank, &mut one);
+    assert!(rt; answer.at == 0 && answer.result == Ok(10));
+    bank.join(&mut zero, one);
+    let (kept, _retired) = bank.close(zero);
+    match kept {
+        Some(kept) => assert!(rt; kept.ran == 1 && kept.value.balance == 10),
         None => panic!(rt; "the value is lost"),
     }
     Ok(())
