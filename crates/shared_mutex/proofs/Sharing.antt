@@ -13,12 +13,16 @@ use Rattle.std.specs.Prelude.{MatchResult, Ok, Err}
 use Rattle.std.specs.declared.result.Result.{Result}
 use Rattle.state_word.specs.Words.{may_defer_of}
 use Rattle.hall.specs.declared.guards.Form.{Form}
+use Rattle.hall.specs.declared.guards.Form.TheVariants as forms
 use Rattle.hall.specs.declared.guards.SharedGuard.{SharedGuard}
 use Rattle.hall.specs.declared.guards.TryFault.{TryFault}
 use Rattle.hall.specs.declared.guards.Why.TheVariants.{NoDefer}
 use Rattle.hall.specs.declared.view.Kind.TheVariants as kinds
 use Rattle.hall.specs.Plays.{Enters, conflicts_for_shared}
-use Rattle.hall.specs.Views.{after_look}
+use Rattle.hall.specs.declared.view.Standing.{Standing}
+use Rattle.hall.specs.declared.view.Standing.TheVariants.{Away}
+use Rattle.hall.specs.Fitting.{stands_by}
+use Rattle.hall.specs.Views.{after_look, pending}
 use Rattle.shared_mutex.specs.Acquiring.{EntersBy, EntersInline, RefusesShared}
 use Rattle.hall.specs.Reasons.{MetAWriter, WasNotAlone, found_changed}
 use Rattle.hall.specs.Refusals.{BusyForReading, ReadTwoWords, reading_met, racing_met}
@@ -75,3 +79,13 @@ module _ {C P : Type 0} (g : Ghosts C P) (v l w : View P) (lock seen : ℕ) (is 
       let found : ℕ = e.0 in let differ : seen ≢ found = λ same. e.2 (sym same) in let look = e.3 in
       subst (λ (f : TryFault). RefusesShared g v lock w f) (sym e.1)
       (differ, free, inl (clear, look.0 ∙ ap (λ (z : View P). after_look z kinds.Enter lock found) is), found_changed g l w lock found found kinds.Enter None look.2 look.0 v seen is differ)
+
+-- with what a reader's try leaves nothing is pending
+pending_by : (form : Form) → pending (stands_by form) ≡ 0
+pending_by (forms.Deferred slot) = refl
+pending_by (forms.Inline why) = refl
+pending_by forms.Lowered = refl
+
+pub settled : (r : Result SharedGuard TryFault) (x : Standing) → MatchResult r (λ guard. x ≡ stands_by guard.form) (λ _. x ≡ Away) → pending x ≡ 0
+settled (Ok guard) x e = ap pending e ∙ pending_by guard.form
+settled (Err fault) x e = ap pending e

@@ -107,7 +107,7 @@ module _ {C P : Type 0} (g : Ghosts C P) (v l u w : View P) (lock seen : ℕ) (i
     by_token (Err fault) e =
         let word : ℕ = e.0 in let back : TakesTokenBack g u lock slot word w = e.1 in
         let here : standing u lock ≡ Undecided slot = stands_there g v lock away (Undecided slot) u token near in
-        let turns : TurnsBack g v lock seen word w = (near, may, (slot, u, from, back)) in
+        let turns : TurnsBack g v lock seen word w = (near, away, may, (slot, u, from, back)) in
         let policy : conflicts_for_shared v.shape.policy word ≡ conflicts_for_shared u.shape.policy word = sym (ap (λ (s : Shape). conflicts_for_shared s.policy word) token.shape) in
         let differ : seen ≢ word = λ same. absurd (omega (arith, may.1, back.0, ap may_defer_of same)) in
         ⊎_elim

@@ -19,12 +19,18 @@ use Rattle.hall.specs.Moves.{Moment}
 use Rattle.hall.specs.Plays.{conflicts_for_shared, conflicts_for_announcing, Announces, EnterMisses, Enters, GivesBack, Holding, Looks}
 use Rattle.hall.specs.Reasons.{WasNotAlone, MetAWriter}
 use Rattle.hall.specs.Upgrading.{HoldingUp}
-use Rattle.hall.specs.Views.{after_look, after_step}
+use Rattle.hall.specs.Views.{after_look, after_step, standing}
 use Rattle.apply_deferred.specs.Sweeping.{Sweeps}
 use Rattle.hall.specs.Slotting.{Defers}
 use Rattle.reader_slots.specs.declared.Placed.TheVariants.{At, Taken}
 use Rattle.reader_slots.specs.declared.Withdrawn.{Withdrawn}
 use Rattle.reader_slots.specs.Deferring.{LeavesAs, Places, WithdrawsAs}
+
+-- how many steps it may take to leave: of a reader in a slot two, and else one
+abbrev pub steps_to_leave : Form → ℕ
+steps_to_leave (forms.Deferred slot) = 2
+steps_to_leave (forms.Inline why) = 1
+steps_to_leave forms.Lowered = 1
 
 module _ {P : Type 0} where
   -- one load found a word that lets a reader in and lets it defer
@@ -48,9 +54,9 @@ module _ {C P : Type 0} (g : Ghosts C P) where
   abbrev pub TakesTokenBack : View P → ℕ → ℕ → ℕ → View P → Type 0
   TakesTokenBack v lock slot word w = (may_defer_of word ≡ 0) × Looks g kinds.Check v lock word (after_look v kinds.Check lock word) × ((ended : Withdrawn) × WithdrawsAs g (after_look v kinds.Check lock word) lock slot ended w)
 
-  -- one load found a word that lets readers defer, and a token was placed; but a second look found this word, and the token was taken back
+  -- from outside: one load found a word that lets readers defer, and a token was placed; but a second look found this word, and the token was taken back
   abbrev pub TurnsBack : View P → ℕ → ℕ → ℕ → View P → Type 0
-  TurnsBack v lock seen word w = (lock < length v.standings) × MayDefer v seen × ((slot : ℕ) × (u : View P) × Places g (after_look v kinds.Load lock seen) lock (At slot) u × TakesTokenBack u lock slot word w)
+  TurnsBack v lock seen word w = (lock < length v.standings) × (standing v lock ≡ Away) × MayDefer v seen × ((slot : ℕ) × (u : View P) × Places g (after_look v kinds.Load lock seen) lock (At slot) u × TakesTokenBack u lock slot word w)
 
   -- Busy: one load, from outside, found this word, which conflicts; or it was found by the second look of a reader that turned back. So a writer or an upgrade holder was there.
   -- Raced: one load found a word that doesn't conflict, and then a failed exchange another word, right after it or after both slots were found taken; or the second look did, and the reader turned back. So another seat was there

@@ -1,5 +1,6 @@
 pub mod Acquiring
 pub mod Beside
+pub mod Entering
 pub mod Refused
 pub mod TokenLaws
 pub mod Tokens

@@ -1,6 +1,6 @@
 -- Laws of a reader's try that was refused: each step is one of a reader that is outside, and the pass is as it was.
 use Rattle.std.specs.Prelude.{◌≡◌, ◌≢◌, ℕ, ◌<◌, ◌+◌, List, length, slice_index, slice_index_or, true, false}
-use Rattle.std.proofs.Common.{refl, sym, ap, ◌∙◌, subst, ⊎_elim, arith, get_or-set_same}
+use Rattle.std.proofs.Common.{refl, sym, ap, ◌∙◌, subst, ⊎_elim, inl, inr, arith, get_or-set_same}
 use Rattle.hall.specs.declared.cargo.CargoRule.{Ghosts}
 use Rattle.hall.specs.declared.guards.TryFault.{TryFault}
 use Rattle.hall.specs.declared.guards.TryFault.TheVariants.{Busy, Raced}
@@ -26,7 +26,7 @@ module _ {C P : Type 0} (g : Ghosts C P) (v : View P) (lock : ℕ) (away : stand
   -- a step that left the standing as it was
   stayed : (x : Standing) (u w : View P) (kind : Kind) (place word : ℕ) → standing u lock ≡ x → OnlyTried v lock x u → is_reader_step kind ≡ true → w ≡ after_step_at u kind lock place word false (standing u lock) u.part → OnlyTried v lock x w
   stayed x u w kind place word here t reads is = subst (λ (y : Standing). OnlyTried v lock y w) here
-      (one_more v lock away x (standing u lock) u w kind place word false u.part t reads (ap mode_of here ∙ t.outside.0) (ap is_strong here ∙ t.outside.1) refl is)
+      (one_more v lock away x (standing u lock) u w kind place word false u.part t reads (inl refl) (ap mode_of here ∙ t.outside.0) (ap is_strong here ∙ t.outside.1) refl is)
 
   -- the first slot was found taken
   pub first_missed : (l z : View P) (found : ℕ) → standing l lock ≡ Away → OnlyTried v lock Away l → FindsFirstTaken g l lock found z → OnlyTried v lock Away z
@@ -35,16 +35,16 @@ module _ {C P : Type 0} (g : Ghosts C P) (v : View P) (lock : ℕ) (away : stand
   -- a token was placed
   pub placed : (l u : View P) (slot : ℕ) → standing l lock ≡ Away → OnlyTried v lock Away l → Places g l lock (At slot) u → OnlyTried v lock (Undecided slot) u
   placed l u slot here t p = ⊎_elim
-      (λ a. one_more v lock away Away (Undecided slot) l u kinds.PlaceSlot slot 0 true l.part t refl refl refl refl a.1.0)
-      (λ b. let z : View P = b.1.0 in one_more v lock away Away (Undecided slot) z u kinds.PlaceSlot slot 0 true z.part (first_missed l z b.1.1 here t b.1.2) refl refl refl refl b.1.3.0)
+      (λ a. one_more v lock away Away (Undecided slot) l u kinds.PlaceSlot slot 0 true l.part t refl (inr refl) refl refl refl a.1.0)
+      (λ b. let z : View P = b.1.0 in one_more v lock away Away (Undecided slot) z u kinds.PlaceSlot slot 0 true z.part (first_missed l z b.1.1 here t b.1.2) refl (inr refl) refl refl refl b.1.3.0)
       p
 
   -- and taken back after a second look
-  withdrawn : (c w : View P) (slot : ℕ) (ended : Withdrawn) → lock < length v.standings → OnlyTried v lock (Undecided slot) c → WithdrawsAs g c lock slot ended w → OnlyTried v lock Away w
-  withdrawn c w slot Cleared near t r = one_more v lock away (Undecided slot) Away c w kinds.WithdrawSlot slot (lock + 1) true c.part t refl refl refl refl r.0
+  pub withdrawn : (c w : View P) (slot : ℕ) (ended : Withdrawn) → lock < length v.standings → OnlyTried v lock (Undecided slot) c → WithdrawsAs g c lock slot ended w → OnlyTried v lock Away w
+  withdrawn c w slot Cleared near t r = one_more v lock away (Undecided slot) Away c w kinds.WithdrawSlot slot (lock + 1) true c.part t refl (inr refl) refl refl refl r.0
   withdrawn c w slot GaveBack near t r =
-      let o : View P = r.0 in let owes : OnlyTried v lock Owing o = one_more v lock away (Undecided slot) Owing c o kinds.WithdrawSlot slot r.1 false c.part t refl refl refl refl r.3.0 in
-      one_more v lock away Owing Away o w kinds.Lower (place_of o lock) r.4.0 true (lowered_part g (standing o lock) lock o.part) owes refl refl refl (ap (λ (x : Standing). lowered_part g x lock o.part) (stands_there Owing o owes near)) r.4.1.0
+      let o : View P = r.0 in let owes : OnlyTried v lock Owing o = one_more v lock away (Undecided slot) Owing c o kinds.WithdrawSlot slot r.1 false c.part t refl (inl refl) refl refl refl r.3.0 in
+      one_more v lock away Owing Away o w kinds.Lower (place_of o lock) r.4.0 true (lowered_part g (standing o lock) lock o.part) owes refl (inr refl) refl refl (ap (λ (x : Standing). lowered_part g x lock o.part) (stands_there Owing o owes near)) r.4.1.0
 
   taken_back : (u w : View P) (slot word : ℕ) → lock < length v.standings → OnlyTried v lock (Undecided slot) u → TakesTokenBack g u lock slot word w → OnlyTried v lock Away w
   taken_back u w slot word near t r =
@@ -57,10 +57,19 @@ module _ {C P : Type 0} (g : Ghosts C P) (v : View P) (lock : ℕ) (away : stand
   pub still_away : (word : ℕ) → standing (after_look v kinds.Load lock word) lock ≡ Away
   still_away word = same_of (λ (x : Standing). x) v.standings lock (standing v lock) refl ∙ away
 
-  turned_back : (w : View P) (seen word : ℕ) → TurnsBack g v lock seen word w → OnlyTried v lock Away w
+  pub turned_back : (w : View P) (seen word : ℕ) → TurnsBack g v lock seen word w → OnlyTried v lock Away w
   turned_back w seen word r =
       let l : View P = after_look v kinds.Load lock seen in
-      taken_back r.2.1 w r.2.0 word r.0 (placed l r.2.1 r.2.0 (still_away seen) (loaded seen l refl) r.2.2) r.2.3
+      taken_back r.3.1 w r.3.0 word r.0 (placed l r.3.1 r.3.0 (still_away seen) (loaded seen l refl) r.3.2) r.3.3
+
+  -- both slots were found taken
+  pub both_missed : (l u : View P) (tokens : List ℕ) → standing l lock ≡ Away → OnlyTried v lock Away l → Places g l lock (Taken tokens) u → OnlyTried v lock Away u × (standing u lock ≡ Away)
+  both_missed l u tokens here t p =
+      let z : View P = p.0 in let first : OnlyTried v lock Away z = first_missed l z (slice_index tokens 0) here t p.1 in
+      let there : standing z lock ≡ Away = ap (λ (k : View P). standing k lock) p.1.1.0 ∙ same_of (λ (x : Standing). x) l.standings lock (standing l lock) refl ∙ here in (
+        stayed Away z u kinds.PlaceSlot (second_slot l.shape.slots l.number) (slice_index tokens 1) there first refl p.3.0,
+        ap (λ (k : View P). standing k lock) p.3.0 ∙ same_of (λ (x : Standing). x) z.standings lock (standing z lock) refl ∙ there,
+      )
 
   -- each way of a refusal
   pub reader_tried : (w : View P) (f : TryFault) → RefusesShared g v lock w f → OnlyTried v lock Away w
@@ -70,12 +79,7 @@ module _ {C P : Type 0} (g : Ghosts C P) (v : View P) (lock : ℕ) (away : stand
       ⊎_elim
       (λ a. stayed Away l w kinds.Enter (place_of l lock) found (still_away expected) t refl a.1)
       (λ bc. ⊎_elim
-      (λ b. let p = b.1.2 in let u : View P = b.1.1 in let z : View P = p.0 in
-      let first : OnlyTried v lock Away z = first_missed l z (slice_index b.1.0 0) (still_away expected) t p.1 in
-      let there : standing z lock ≡ Away = ap (λ (k : View P). standing k lock) p.1.1.0 ∙ same_of (λ (x : Standing). x) l.standings lock (standing l lock) refl ∙ still_away expected in
-      let both : OnlyTried v lock Away u = stayed Away z u kinds.PlaceSlot (second_slot l.shape.slots l.number) (slice_index b.1.0 1) there first refl p.3.0 in
-      let still : standing u lock ≡ Away = ap (λ (k : View P). standing k lock) p.3.0 ∙ same_of (λ (x : Standing). x) z.standings lock (standing z lock) refl ∙ there in
-      stayed Away u w kinds.Enter (place_of u lock) found still both refl b.1.3)
+      (λ b. let u : View P = b.1.1 in let missed = both_missed l u b.1.0 (still_away expected) t b.1.2 in stayed Away u w kinds.Enter (place_of u lock) found missed.1 missed.0 refl b.1.3)
       (λ c. turned_back w expected found c.1)
       bc)
       r.2

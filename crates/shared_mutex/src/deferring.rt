@@ -12,7 +12,7 @@ use hall::{Form, Hall, NoCargo, Pass, Policy, SharedGuard, Why, Word};
 use std::process::Abort;
 
 // A shared hold, which has to have this form.
-fn enters_by<A: Abort>(
+pub(crate) fn enters_by<A: Abort>(
     rt: &A,
     hall: &Hall<NoCargo>,
     pass: &mut Pass<NoCargo>,
@@ -22,7 +22,8 @@ fn enters_by<A: Abort>(
     requires away { standing (view pass.old) 0 ≡ Away }
     requires clear { HasNonePending (view pass.old) }
     ensures pass { IsPassOf hall.now pass.new }
-    ensures fits { SharedFits (shape_of hall.now) (view pass.new) result × (result.lock ≡ 0) }
+    ensures fits { (result.lock ≡ 0) × SharedFits (shape_of hall.now) (view pass.new) result }
+    ensures clear { HasNonePending (view pass.new) }
 {
     match try_lock_shared(hall, pass, 0) {
         Ok(guard) => {

@@ -1,13 +1,13 @@
 //! Shared holds.
 ghost use Rattle.std.specs.Prelude.{◌≡◌, ◌+◌, ◌<◌, false, IfOk, MatchResult};
 ghost use Rattle.state_word.specs.Words.{may_defer_of};
-ghost use Rattle.hall.specs.Fitting.{SharedFits};
+ghost use Rattle.hall.specs.Fitting.{SharedFits, stands_by};
 ghost use Rattle.hall.specs.Passes.{view, IsPassOf, shape_of};
 ghost use Rattle.hall.specs.Plays.{conflicts_for_shared, HasRoom};
 ghost use Rattle.hall.specs.Slotting.{HasNonePending};
 ghost use Rattle.hall.specs.Views.{standing};
 ghost use Rattle.hall.specs.declared.view.Standing.TheVariants.{Away, Inline, Undecided};
-ghost use Rattle.shared_mutex.specs.Acquiring.{ElsewhereSame, MadeAtMost, EntersBy, EntersInline, LeavesShared, RefusesShared, Settles};
+ghost use Rattle.shared_mutex.specs.Acquiring.{ElsewhereSame, MadeAtMost, EntersBy, EntersInline, LeavesShared, RefusesShared, Settles, steps_to_leave};
 
 use hall::conflicts::conflicts_for_shared;
 use hall::{Cargo, Form, Hall, Pass, SharedGuard, TryFault, Why, Word};
@@ -59,7 +59,7 @@ fn settle<C: Cargo>(
     requires undecided { standing (view pass.old) lock ≡ Undecided slot }
     ensures pass { IsPassOf hall.now pass.new }
     ensures step { Settles C.CargoRule (view pass.old) lock slot seen (view pass.new) result }
-    ensures away { MatchResult result (λ _. Unit {0}) (λ _. standing (view pass.new) lock ≡ Away) }
+    ensures stands { MatchResult result (λ guard. standing (view pass.new) lock ≡ stands_by guard.form) (λ _. standing (view pass.new) lock ≡ Away) }
     ensures fits { IfOk result (λ guard. SharedFits (shape_of hall.now) (view pass.new) guard) }
     ensures elsewhere { ElsewhereSame (view pass.old) (view pass.new) lock }
     ensures steps { MadeAtMost (view pass.old) (view pass.new) 3 }
@@ -101,8 +101,9 @@ pub fn try_lock_shared<C: Cargo>(
     requires clear { HasNonePending (view pass.old) }
     ensures pass { IsPassOf hall.now pass.new }
     ensures step { MatchResult result (λ guard. (guard.lock ≡ lock) × EntersBy C.CargoRule (view pass.old) lock guard.form (view pass.new)) (λ fault. RefusesShared C.CargoRule (view pass.old) lock (view pass.new) fault) }
-    ensures away { MatchResult result (λ _. Unit {0}) (λ _. standing (view pass.new) lock ≡ Away) }
+    ensures stands { MatchResult result (λ guard. standing (view pass.new) lock ≡ stands_by guard.form) (λ _. standing (view pass.new) lock ≡ Away) }
     ensures fits { IfOk result (λ guard. SharedFits (shape_of hall.now) (view pass.new) guard) }
+    ensures clear { HasNonePending (view pass.new) }
     ensures elsewhere { ElsewhereSame (view pass.old) (view pass.new) lock }
     ensures steps { MadeAtMost (view pass.old) (view pass.new) 6 }
 {
@@ -128,8 +129,9 @@ pub fn unlock_shared<C: Cargo>(hall: &Hall<C>, pass: &mut Pass<C>, guard: Shared
     ensures pass { IsPassOf hall.now pass.new }
     ensures step { LeavesShared C.CargoRule (view pass.old) guard.lock guard.form (view pass.new) }
     ensures away { standing (view pass.new) guard.lock ≡ Away }
+    ensures clear { HasNonePending (view pass.old) → HasNonePending (view pass.new) }
     ensures elsewhere { ElsewhereSame (view pass.old) (view pass.new) guard.lock }
-    ensures steps { MadeAtMost (view pass.old) (view pass.new) 2 }
+    ensures steps { MadeAtMost (view pass.old) (view pass.new) (steps_to_leave guard.form) }
 {
     let SharedGuard { lock, form } = guard;
     match form {

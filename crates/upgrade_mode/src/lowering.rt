@@ -4,6 +4,7 @@ ghost use Rattle.hall.specs.declared.guards.Form.TheVariants.{Lowered};
 ghost use Rattle.hall.specs.Fitting.{ExclusiveFits, SharedFits, UpgradeFits};
 ghost use Rattle.hall.specs.Passes.{view, IsPassOf, shape_of};
 ghost use Rattle.hall.specs.Upgrading.{LowersUpgrade, LowersToShared, LowersToUpgrade};
+ghost use Rattle.hall.specs.Slotting.{HasNonePending};
 ghost use Rattle.hall.specs.Views.{standing};
 ghost use Rattle.hall.specs.declared.view.Standing.TheVariants.{Inline, Upgrade};
 ghost use Rattle.shared_mutex.specs.Acquiring.{ElsewhereSame, MadeAtMost};
@@ -23,6 +24,7 @@ pub fn upgrade_to_shared<C: Cargo>(
     ensures step { (found : _) × LowersUpgrade C.CargoRule (view pass.old) guard.lock found (view pass.new) }
     ensures inline { standing (view pass.new) guard.lock ≡ Inline }
     ensures fits { SharedFits (shape_of hall.now) (view pass.new) result }
+    ensures clear { HasNonePending (view pass.old) → HasNonePending (view pass.new) }
     ensures elsewhere { ElsewhereSame (view pass.old) (view pass.new) guard.lock }
     ensures steps { MadeAtMost (view pass.old) (view pass.new) 1 }
 {
@@ -48,6 +50,7 @@ pub fn exclusive_to_shared<C: Cargo>(
     ensures step { LowersToShared C.CargoRule (view pass.old) guard.lock 8 (view pass.new) }
     ensures inline { standing (view pass.new) guard.lock ≡ Inline }
     ensures fits { SharedFits (shape_of hall.now) (view pass.new) result }
+    ensures clear { HasNonePending (view pass.old) → HasNonePending (view pass.new) }
     ensures elsewhere { ElsewhereSame (view pass.old) (view pass.new) guard.lock }
     ensures steps { MadeAtMost (view pass.old) (view pass.new) 1 }
 {
@@ -73,6 +76,7 @@ pub fn exclusive_to_upgrade<C: Cargo>(
     ensures step { LowersToUpgrade C.CargoRule (view pass.old) guard.lock 8 (view pass.new) }
     ensures upgrade { standing (view pass.new) guard.lock ≡ Upgrade }
     ensures fits { UpgradeFits (shape_of hall.now) (view pass.new) result }
+    ensures clear { HasNonePending (view pass.old) → HasNonePending (view pass.new) }
     ensures elsewhere { ElsewhereSame (view pass.old) (view pass.new) guard.lock }
     ensures steps { MadeAtMost (view pass.old) (view pass.new) 1 }
 {

@@ -7,9 +7,9 @@ use Rattle.hall.specs.declared.view.View.{View}
 use Rattle.hall.specs.Passes.{view}
 use Rattle.hall.specs.Plays.{conflicts_for_shared}
 use Rattle.hall.specs.Reasons.{read_conflict, shared_bits}
-use Rattle.hall.specs.SlotLaws.{stands_elsewhere}
+use Rattle.hall.specs.SlotLaws.{none_pending_at, none_pending_looked, stands_elsewhere}
 use Rattle.hall.specs.Views.{is_outside, place_of, standing}
-use Rattle.shared_mutex.proofs.Sharing.{by_word}
+use Rattle.shared_mutex.proofs.Sharing.{by_word, settled}
 use Rattle.shared_mutex.proofs.Turning.{by_count, by_token}
 use Rattle.shared_mutex.proofs.shared.try_lock_shared.Goals as goal
 
@@ -51,3 +51,25 @@ pub returns-in-Taken-clause-elsewhere : goal.returns-in-Taken-clause-elsewhere
 returns-in-Taken-clause-elsewhere g c =
     let v = view c.args.pass.now in let l = view c.load-seen.new.pass in
     λ k ne. c.enter_inline-in-Taken.ensures.elsewhere k ne ∙ c.place.ensures.elsewhere k ne ∙ stands_elsewhere v l c.args.lock (place_of v c.args.lock) c.load-seen.result kinds.Load false (standing v c.args.lock) v.part c.load-seen.ensures.step.0 k ne
+
+pub returns-then-conflicts_for_shared-clause-clear :
+    goal.returns-then-conflicts_for_shared-clause-clear
+returns-then-conflicts_for_shared-clause-clear g c = none_pending_looked (view c.args.pass.now) (view c.load-seen.new.pass) c.args.lock c.load-seen.result kinds.Load c.load-seen.ensures.step.0 c.requires.clear
+
+pub returns-then-not-may_defer-clause-clear : goal.returns-then-not-may_defer-clause-clear
+returns-then-not-may_defer-clause-clear g c =
+    let l = view c.load-seen.new.pass in let w = view c.enter_inline.new.pass in
+    none_pending_at l w c.args.lock c.enter_inline.ensures.elsewhere (settled c.enter_inline.result (standing w c.args.lock) c.enter_inline.ensures.stands)
+    (none_pending_looked (view c.args.pass.now) l c.args.lock c.load-seen.result kinds.Load c.load-seen.ensures.step.0 c.requires.clear)
+
+pub returns-in-At-clause-clear : goal.returns-in-At-clause-clear
+returns-in-At-clause-clear g c =
+    let l = view c.load-seen.new.pass in let w = view c.settle.new.pass in
+    none_pending_at l w c.args.lock (λ k ne. c.settle.ensures.elsewhere k ne ∙ c.place.ensures.elsewhere k ne) (settled c.settle.result (standing w c.args.lock) c.settle.ensures.stands)
+    (none_pending_looked (view c.args.pass.now) l c.args.lock c.load-seen.result kinds.Load c.load-seen.ensures.step.0 c.requires.clear)
+
+pub returns-in-Taken-clause-clear : goal.returns-in-Taken-clause-clear
+returns-in-Taken-clause-clear g c =
+    let l = view c.load-seen.new.pass in let w = view c.enter_inline-in-Taken.new.pass in
+    none_pending_at l w c.args.lock (λ k ne. c.enter_inline-in-Taken.ensures.elsewhere k ne ∙ c.place.ensures.elsewhere k ne) (settled c.enter_inline-in-Taken.result (standing w c.args.lock) c.enter_inline-in-Taken.ensures.stands)
+    (none_pending_looked (view c.args.pass.now) l c.args.lock c.load-seen.result kinds.Load c.load-seen.ensures.step.0 c.requires.clear)
