@@ -13,7 +13,8 @@ use Rattle.query_rules.specs.Ledger.{act_of}
 use Rattle.query_rules.specs.History.{IsKindFor, has_said, is_value, is_count, is_both, asks_ledger}
 use Rattle.waiter_chain.specs.declared.view.View.{View as ChainView}
 use Rattle.query_cells.specs.Asked.{AddsJob, LedgerParcel, tells_write}
-use Rattle.run_laws.specs.Lists.{jobs_of, writes_of}
+use Rattle.query_rules.specs.Maps.{writes_of}
+use Rattle.query_rules.specs.Ledger.{jobs_of}
 
 never : {A : Type 0} → false ≡ true → A
 never bad = absurd (let is : false ≡ true = bad in cc)

@@ -8,7 +8,8 @@ use Rattle.query_rules.specs.declared.query.Reply.{Reply}
 use Rattle.query_rules.specs.History.{AnswersEachOnce, IsKindFor}
 use Rattle.query_rules.specs.Ledger.{act_of}
 use Rattle.query_rules.specs.Maps.{may_write}
-use Rattle.run_laws.specs.Lists.{jobs_of, writes_of}
+use Rattle.query_rules.specs.Maps.{writes_of}
+use Rattle.query_rules.specs.Ledger.{jobs_of}
 
 -- no more of them may write than there are
 pub writes_few : (callers : List (List Query)) (most : ℕ) → sum_by length callers ≤ most → sum_by writes_of callers ≤ most

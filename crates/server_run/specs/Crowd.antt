@@ -19,7 +19,8 @@ use Rattle.combine_job.specs.declared.job.Job as job
 use Rattle.dist_mutex.specs.declared.mutex.DistMutex.{DistMutex}
 use Rattle.dist_mutex.specs.declared.pass.DistPass.{DistPass}
 use Rattle.dist_mutex.specs.Passes.{IsAtRest, IsDistPassOf, dist_view}
-use Rattle.run_laws.specs.Lists.{writes_of, jobs_of}
+use Rattle.query_rules.specs.Maps.{writes_of}
+use Rattle.query_rules.specs.Ledger.{jobs_of}
 use Rattle.run_laws.specs.Callers.{HasAsked, IsFresh}
 use Rattle.server_run.specs.declared.caller.Caller.{Caller}
 

@@ -20,8 +20,10 @@ use Rattle.map_cargo.specs.declared.size.MapCargo.{MapCargo}
 use Rattle.map_cargo.specs.declared.entry.Part.{Part}
 use Rattle.map_cargo.specs.History.{first_part}
 use Rattle.map_cargo.specs.Steps.{Suits, IsIdle}
-use Rattle.run_laws.specs.Lists.{writes_of, jobs_of}
+use Rattle.query_rules.specs.Maps.{writes_of}
+use Rattle.query_rules.specs.Ledger.{jobs_of}
 use Rattle.run_laws.specs.Callers.{seats_for}
+use Rattle.query_rules.specs.declared.query.TheConstants.{MOST_CALLERS, MOST_QUERIES}
 
 -- each cell of the hall stands behind a lock
 pub record HasCells (h : Hall MapCargo Part) : Type 0 where
@@ -66,6 +68,6 @@ pub record IsFirstOf (seats most : ℕ) (v : ChainView LedgerParcel) : Type 0 wh
 -- these callers' queries may be asked of the hall
 pub record MayAsk (h : Hall MapCargo Part) (callers : List (List Query)) : Type 0 where
   pub hall : HasCells h
-  pub crowd : length callers ≤ 64
-  pub few : sum_by length callers ≤ 1000000
+  pub crowd : length callers ≤ MOST_CALLERS
+  pub few : sum_by length callers ≤ MOST_QUERIES
   pub taken : AllByRecursion (AllByRecursion (TakesBelow (cargo_of h).cells)) callers

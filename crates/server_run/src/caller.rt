@@ -6,10 +6,12 @@ ghost use Rattle.query_rules.specs.Grammar.{TakesBelow};
 ghost use Rattle.query_rules.specs.Numbers.{IsReply};
 ghost use Rattle.map_cargo.specs.Steps.{IsIdle};
 ghost use Rattle.dist_mutex.specs.Passes.{IsAtRest, IsDistPassOf, dist_view};
-ghost use Rattle.run_laws.specs.Lists.{jobs_of, writes_of};
+ghost use Rattle.query_rules.specs.Maps.{writes_of};
+ghost use Rattle.query_rules.specs.Ledger.{jobs_of};
 ghost use Rattle.run_laws.specs.Callers.{IsAsked};
 ghost use Rattle.server_run.specs.Crowd.{IsDone, MayBegin};
 ghost use Rattle.server_run.specs.Rooms.{HasCells, MayAsk};
+ghost use Rattle.query_rules.specs.declared.query.TheConstants.{MOST_QUERIES};
 
 use crate::reserved::push_reserved;
 use dist_mutex::mutex::DistMutex;
@@ -53,7 +55,7 @@ pub fn ask_all<R: Wait, T: Clock, G: Gate>(
     requires dist { IsDistPassOf dist.now dist_pass.old × IsAtRest dist_pass.old }
     requires number { (dist_view dist_pass.old).number ≡ (view pass.old).number }
     requires jobs { jobs_of queries.now ≤ (dist_view dist_pass.old).quota }
-    requires few { length queries.now ≤ 1000000 }
+    requires few { length queries.now ≤ MOST_QUERIES }
     requires room { (replies.old.items ≡ []) × (length queries.now ≤ vec_capacity replies.old) }
     ensures pass { IsPassOf hall.now pass.new × IsIdle (view pass.new) }
     ensures dist { IsDistPassOf dist.now dist_pass.new × IsAtRest dist_pass.new }

@@ -1,5 +1,5 @@
-//! What no clause says: that callers run side by side, each by its own list, and worked examples of
-//! several callers.
+//! What no clause says: that callers run side by side, and that the closes of a run without callers
+//! are handed out.
 use crate::{Ended, serve_main};
 use ql_base::{Gate, HoldGate, ListClocks, MemSink, MemSource, OpenGate, TurnGate};
 use std::alloc::{AllocError, Global};
@@ -47,19 +47,6 @@ fn the_closes_of_a_run_without_callers_are_handed_out(rt: HostRuntime) -> Result
     Ok(())
 }
 
-#[test]
-fn one_caller_reads_what_another_wrote(rt: HostRuntime) -> Result<(), AllocError> {
-    let order = vec![in rt.alloc(); (0, 0), (2, 0)]?;
-    let gate = TurnGate::new(order, LIMIT);
-    let script = b"cells 1\ncaller\nput 0 1 5\ncaller\ncaller\nget 0 1\n";
-    let (status, written, is_closed) = run(&rt, script, &gate)?;
-    assert_eq!(rt; (status, is_closed, gate.limit_met()), (0, true, false));
-    let log =
-        b"querylog 1\ncells 1 rows 1024 callers 3\nmap 1 0 0 put 0 1 5 = new\nmap 2 2 0 get 0 1 = some 5\nqueries 2\nwrites 1\nreads 1\nrefused 0\njobs 0\nend\n";
-    assert_eq!(rt; written.as_slice(), log.as_slice());
-    Ok(())
-}
-
 // Whoever runs one caller after the other meets the limit.
 #[test]
 fn a_caller_asks_between_two_queries_of_another(rt: HostRuntime) -> Result<(), AllocError> {
@@ -86,84 +73,5 @@ fn no_caller_waits_for_another_that_is_held_back(rt: HostRuntime) -> Result<(), 
     let other =
         b"querylog 1\ncells 1 rows 1024 callers 2\nmap 1 1 0 put 0 2 6 = new\nmap 3 0 0 put 0 1 5 = new\nqueries 2\nwrites 2\nreads 0\nrefused 0\njobs 0\nend\n";
     assert!(rt; written.as_slice() == one.as_slice() || written.as_slice() == other.as_slice());
-    Ok(())
-}
-
-// Whether lines that end so stand there in this order.
-fn has_in_order(text: &[u8], ends: &[&[u8]]) -> bool {
-    let mut rest = ends;
-    for line in text.split(|byte| *byte == b'\n') {
-        if let [end, after @ ..] = rest {
-            if line.ends_with(end) {
-                rest = after;
-            }
-        }
-    }
-    rest.is_empty()
-}
-
-#[test]
-fn a_caller_is_told_its_own_writes(rt: HostRuntime) -> Result<(), AllocError> {
-    let script = b"cells 2\ncaller\nput 0 1 5\nget 0 1\ncaller\nput 1 1 9\n";
-    for _ in 0..100 {
-        let (status, written, _) = run(&rt, script, &OpenGate)?;
-        assert_eq!(rt; status, 0);
-        let text = written.as_slice();
-        let own: [&[u8]; 2] = [b" 0 0 put 0 1 5 = new", b" 0 1 get 0 1 = some 5"];
-        assert!(rt; has_in_order(text, &own));
-        assert!(rt;
-            has_in_order(
-                text,
-                &[b"map 1 0 0 put 0 1 5 = new", b"map 3 1 0 put 1 1 9 = new"]
-            ) || has_in_order(
-                text,
-                &[b"map 1 1 0 put 1 1 9 = new", b"map 3 0 0 put 0 1 5 = new"]
-            )
-        );
-    }
-    Ok(())
-}
-
-#[test]
-fn four_callers_add_up(rt: HostRuntime) -> Result<(), AllocError> {
-    let script =
-        b"cells 3\ncaller\nadd 0 1 1\nadd 1 0 5\nget 0 1\nput 2 0 7\nputlen 2 0 8\nboth 0 1 1\ngive 1 3\nlen 2\ncas 0 9 0 1\naudit\ncaller\nadd 0 1 1\nadd 1 1 5\nget 0 1\nput 2 1 7\nputlen 2 1 8\nboth 0 1 1\ngive 1 3\nlen 2\ncas 0 9 0 1\naudit\ncaller\nadd 0 1 1\nadd 1 2 5\nget 0 1\nput 2 2 7\nputlen 2 2 8\nboth 0 1 1\ngive 1 3\nlen 2\ncas 0 9 0 1\naudit\ncaller\nadd 0 1 1\nadd 1 3 5\nget 0 1\nput 2 3 7\nputlen 2 3 8\nboth 0 1 1\ngive 1 3\nlen 2\ncas 0 9 0 1\naudit\n";
-    let (status, written, _) = run(&rt, script, &OpenGate)?;
-    assert_eq!(rt; status, 0);
-    let text = written.as_slice();
-    assert!(rt; text.ends_with(b"queries 40\nwrites 16\nreads 16\nrefused 0\njobs 8\nend\n"));
-    assert!(rt;
-        has_in_order(
-            text,
-            &[
-                b"add 0 1 1 = now 1",
-                b"add 0 1 1 = now 2",
-                b"add 0 1 1 = now 3",
-                b"add 0 1 1 = now 4"
-            ]
-        )
-    );
-    assert!(rt;
-        has_in_order(
-            text,
-            &[
-                b"cas 0 9 0 1 = none",
-                b"cas 0 9 0 1 = none",
-                b"cas 0 9 0 1 = none",
-                b"cas 0 9 0 1 = none"
-            ]
-        )
-    );
-    assert!(rt;
-        has_in_order(
-            text,
-            &[
-                b"give 1 3 = now 3",
-                b"give 1 3 = now 6",
-                b"give 1 3 = now 9",
-                b"give 1 3 = now 12"
-            ]
-        )
-    );
     Ok(())
 }

@@ -2,10 +2,12 @@
 ghost use Rattle.std.specs.Prelude.{◌≡◌, ◌≤◌, ◌<◌, length, sum_by, IfOk};
 ghost use Rattle.command_line.specs.Form.{IsWithinLimits};
 ghost use Rattle.hall.specs.Passes.{view, IsPassOf};
-ghost use Rattle.run_laws.specs.Lists.{writes_of, jobs_of};
+ghost use Rattle.query_rules.specs.Maps.{writes_of};
+ghost use Rattle.query_rules.specs.Ledger.{jobs_of};
 ghost use Rattle.dist_mutex.specs.Passes.{IsAtRest, IsDistPassOf, dist_view};
 ghost use Rattle.server_run.specs.Rooms.{IsHallFor, IsFirst, IsLockFor, IsFirstOf};
 ghost use Rattle.run_laws.specs.Callers.{seats_for};
+ghost use Rattle.query_rules.specs.declared.query.TheConstants.{MOST_CALLERS, MOST_CELLS, MOST_QUERIES};
 
 use command_line::Options;
 use dist_mutex::mutex::DistMutex;
@@ -14,7 +16,7 @@ use hall::{Hall, Pass};
 use map_cargo::MapCargo;
 use ql_base::NoMemory;
 use query_log::{Ledger, LedgerJob};
-use query_text::{Callers, Query};
+use query_text::Callers;
 use std::alloc::Global;
 
 /// A hall for these callers, as the options ask: so many empty maps behind a lock each, a seat for
@@ -27,9 +29,9 @@ pub fn open_hall(
     options: &Options,
 ) -> Result<(Hall<MapCargo>, Pass<MapCargo>), NoMemory>
     requires limits { IsWithinLimits options.now }
-    requires cells { (0 < cells) × (cells ≤ 64) }
-    requires crowd { length callers.now ≤ 64 }
-    requires few { sum_by length callers.now ≤ 1000000 }
+    requires cells { (0 < cells) × (cells ≤ MOST_CELLS) }
+    requires crowd { length callers.now ≤ MOST_CALLERS }
+    requires few { sum_by length callers.now ≤ MOST_QUERIES }
     ensures pass { IfOk result (λ t. IsPassOf t.0 t.1) }
     ensures hall { IfOk result (λ t. IsHallFor cells callers.now options.now t.0) }
     ensures first { IfOk result (λ t. IsFirst (seats_for callers.now) (sum_by writes_of callers.now) (view t.1)) }
@@ -62,8 +64,8 @@ pub fn open_ledger(
     callers: &Callers,
     options: &Options,
 ) -> Result<(DistMutex<Ledger, LedgerJob>, DistPass<Ledger, LedgerJob>), NoMemory>
-    requires crowd { length callers.now ≤ 64 }
-    requires few { sum_by length callers.now ≤ 1000000 }
+    requires crowd { length callers.now ≤ MOST_CALLERS }
+    requires few { sum_by length callers.now ≤ MOST_QUERIES }
     ensures lock { IfOk result (λ t. IsLockFor callers.now options.now t.0) }
     ensures pass { IfOk result (λ t. IsDistPassOf t.0 t.1 × IsAtRest t.1) }
     ensures first { IfOk result (λ t. IsFirstOf (seats_for callers.now) (sum_by jobs_of callers.now) (dist_view t.1)) }
@@ -85,31 +87,31 @@ fn seats(callers: &Callers) -> u64
 
 // How many queries of all callers ask the ledger.
 fn all_jobs(callers: &Callers) -> u64
-    requires few { sum_by length callers.now ≤ 1000000 }
+    requires few { sum_by length callers.now ≤ MOST_QUERIES }
     ensures { result ≡ sum_by jobs_of callers.now }
 {
     let mut jobs = 0;
     for caller in 0..callers.count() {
-        jobs += count_jobs(callers.queries(caller));
+        jobs += callers.jobs(caller);
     }
     jobs
 }
 
 // How many queries of all callers may change a map.
 fn all_writes(callers: &Callers) -> u64
-    requires few { sum_by length callers.now ≤ 1000000 }
+    requires few { sum_by length callers.now ≤ MOST_QUERIES }
     ensures { result ≡ sum_by writes_of callers.now }
 {
     let mut writes = 0;
     for caller in 0..callers.count() {
-        writes += count_writes(callers.queries(caller));
+        writes += callers.writes(caller);
     }
     writes
 }
 
 /// How many queries there are in all.
 pub fn count_queries(callers: &Callers) -> u64
-    requires few { sum_by length callers.now ≤ 1000000 }
+    requires few { sum_by length callers.now ≤ MOST_QUERIES }
     ensures { result ≡ sum_by length callers.now }
 {
     let mut queries = 0;
@@ -117,18 +119,4 @@ pub fn count_queries(callers: &Callers) -> u64
         queries += callers.queries(caller).len() as u64;
     }
     queries
-}
-
-/// How many of these ask the ledger.
-pub fn count_jobs(queries: &[Query]) -> u64
-    ensures { result ≡ jobs_of queries.now }
-{
-    queries.iter().filter(|query| query.act().is_some()).count() as u64
-}
-
-/// How many of these may change a map.
-pub fn count_writes(queries: &[Query]) -> u64
-    ensures { result ≡ writes_of queries.now }
-{
-    queries.iter().filter(|query| query.may_write()).count() as u64
 }

@@ -8,14 +8,14 @@ ghost use Rattle.map_cargo.specs.Steps.{IsIdle};
 ghost use Rattle.waiter_chain.specs.Chains.{covers};
 ghost use Rattle.waiter_chain.specs.Steps.{joined};
 ghost use Rattle.dist_mutex.specs.Passes.{IsAtRest, IsDistPassOf, dist_view};
-ghost use Rattle.run_laws.specs.Lists.{writes_of, jobs_of};
+ghost use Rattle.query_rules.specs.Maps.{writes_of};
+ghost use Rattle.query_rules.specs.Ledger.{jobs_of};
 ghost use Rattle.run_laws.specs.Callers.{IsTaken};
 ghost use Rattle.server_run.specs.Crowd.{AllDone, AllReady, AllRoomy, MayBegin};
 ghost use Rattle.server_run.specs.Rooms.{IsFirst, IsFirstOf};
 
 use crate::caller::Caller;
 use crate::reserved::push_reserved;
-use crate::room::{count_jobs, count_writes};
 use dist_mutex::mutex::DistMutex;
 use dist_mutex::pass::DistPass;
 use hall::{Hall, Pass};
@@ -92,9 +92,8 @@ fn seat_one<T: Clocks>(
     ensures dist { IsDistPassOf dist.now dist_pass.new × IsAtRest dist_pass.new × IsFirstOf number (sum_by jobs_of (take number callers.now)) (dist_view dist_pass.new) }
     ensures begin { MayBegin hall.now dist.now callers.now number result.pass result.dist_pass result.replies }
 {
-    let queries = callers.queries(number);
-    let own = hall.split(pass, 1, count_writes(queries));
-    let dist_own = dist.split(dist_pass, 1, count_jobs(queries));
+    let own = hall.split(pass, 1, callers.writes(number));
+    let dist_own = dist.split(dist_pass, 1, callers.jobs(number));
     Caller {
         pass: own,
         dist_pass: dist_own,

@@ -11,6 +11,7 @@ ghost use Rattle.server_run.specs.Serve.{limit, run_in, soak_in, Reads, EndedAs,
 ghost use Rattle.query_text.specs.Refusals.{refusal_text};
 ghost use Rattle.query_text.specs.declared.refusal.Refusal.{Refusal};
 ghost use Rattle.command_line.specs.Form.{IsWithinLimits, options_in};
+ghost use Rattle.query_rules.specs.declared.query.TheConstants.{MOST_QUERIES};
 
 use crate::ended::Ended;
 use crate::order::order_of;
@@ -174,7 +175,7 @@ fn serve_soak<R: Threads + Wait + Sync, K: Sink, T: Clocks, G: Gate>(
 ) -> u8
     requires limits { IsWithinLimits options.now }
     requires rows { options.now.rows ≡ 16 }
-    requires count { options.now.count ≤ 1000000 }
+    requires count { options.now.count ≤ MOST_QUERIES }
     ensures soak { result ≡ 0 → WritesSoak (K.written sink.old) (K.written sink.new) options.now ended.new }
     ensures cut { result ≡ 5 → WritesSoakFront (K.written sink.old) (K.written sink.new) options.now ended.new }
     ensures ends { (result ≡ 0) ⊎ (result ≡ 6) ⊎ ((result ≡ 5) × Rose (K.faults sink.old) (K.faults sink.new)) }

@@ -5,7 +5,8 @@ use Rattle.query_rules.specs.declared.query.Query.{Query}
 use Rattle.query_rules.specs.Grammar.{TakesBelow}
 use Rattle.dist_mutex.specs.Passes.{IsAtRest, IsDistPassOf, dist_view}
 use Rattle.map_cargo.specs.Steps.{IsIdle}
-use Rattle.run_laws.specs.Lists.{jobs_of, writes_of}
+use Rattle.query_rules.specs.Maps.{writes_of}
+use Rattle.query_rules.specs.Ledger.{jobs_of}
 use Rattle.run_laws.specs.Callers.{IsAsked}
 use Rattle.server_run.proofs.caller.ask_all.Given as goal
 

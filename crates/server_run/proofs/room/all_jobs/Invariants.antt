@@ -1,5 +1,5 @@
 use Rattle.std.proofs.Common.{◌≡◌, take, sum_by}
-use Rattle.run_laws.specs.Lists.{jobs_of}
+use Rattle.query_rules.specs.Ledger.{jobs_of}
 use Rattle.server_run.proofs.room.all_jobs.Given as goal
 
 abbrev pub invariant-loop-caller : goal.invariant-loop-caller

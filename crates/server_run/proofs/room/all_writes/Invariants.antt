@@ -1,5 +1,5 @@
 use Rattle.std.proofs.Common.{◌≡◌, take, sum_by}
-use Rattle.run_laws.specs.Lists.{writes_of}
+use Rattle.query_rules.specs.Maps.{writes_of}
 use Rattle.server_run.proofs.room.all_writes.Given as goal
 
 abbrev pub invariant-loop-caller : goal.invariant-loop-caller

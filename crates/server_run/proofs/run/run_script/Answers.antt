@@ -7,7 +7,7 @@ use Rattle.query_rules.specs.Maps.{no_entries}
 use Rattle.query_rules.specs.History.{IsLegal}
 use Rattle.map_cargo.specs.Entries.{as_reply}
 use Rattle.dist_mutex.specs.Passes.{opening_of, dist_view}
-use Rattle.run_laws.specs.Lists.{jobs_of}
+use Rattle.query_rules.specs.Ledger.{jobs_of}
 use Rattle.run_laws.specs.WholeLaws.{whole_is_history}
 use Rattle.server_run.proofs.run.run_script.Goals as goal
 

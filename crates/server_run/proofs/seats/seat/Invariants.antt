@@ -1,7 +1,8 @@
 use Rattle.std.proofs.Common.{◌≡◌, ◌+◌, ◌≤◌, take, sum_by, length, deque_len, deque_capacity}
 use Rattle.hall.specs.Passes.{view, IsPassOf}
 use Rattle.dist_mutex.specs.Passes.{IsAtRest, IsDistPassOf, dist_view}
-use Rattle.run_laws.specs.Lists.{jobs_of, writes_of}
+use Rattle.query_rules.specs.Maps.{writes_of}
+use Rattle.query_rules.specs.Ledger.{jobs_of}
 use Rattle.server_run.specs.Crowd.{AllReady, AllRoomy}
 use Rattle.server_run.specs.Rooms.{IsFirst, IsFirstOf}
 use Rattle.server_run.proofs.seats.seat.Given as goal
