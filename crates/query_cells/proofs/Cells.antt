@@ -1,19 +1,17 @@
 -- What may be told of one held cell.
-use Rattle.std.specs.Prelude.{◌≡◌, ◌≢◌, ℕ, ◌+◌, ◌<◌, ◌≤◌, Bool, true, false, List, [], ◌∷◌, Some, None, Option, slice_index_or, cond, if◌then◌else◌}
+use Rattle.std.specs.Prelude.{◌≡◌, ◌≢◌, ℕ, ◌<◌, ◌≤◌, Bool, false, List, [], ◌∷◌, Some, None, Option, slice_index_or, if◌then◌else◌}
 use Rattle.std.proofs.Common.{refl, sym, ap, ◌∙◌, subst, ⊎_elim, eq-eqb}
 use Rattle.lock_model.specs.Locks.{Has}
-use Rattle.lock_model.specs.declared.model.Mode.{Mode}
 use Rattle.hall.specs.declared.view.View.{View}
 use Rattle.hall.specs.declared.view.Standing.{Standing}
-use Rattle.hall.specs.declared.view.Standing.TheVariants.{Away, Upgrade, Exclusive}
-use Rattle.hall.specs.Cargo.{exclusive_mode, upgrade_mode}
+use Rattle.hall.specs.declared.view.Standing.TheVariants.{Away, Exclusive}
+use Rattle.hall.specs.Cargo.{exclusive_mode}
 use Rattle.hall.specs.Views.{standing, mode_of}
 use Rattle.shared_mutex.specs.Acquiring.{ElsewhereSame}
 use Rattle.query_rules.specs.declared.query.Query.{Query}
-use Rattle.query_rules.specs.declared.query.Query.TheVariants as query
 use Rattle.query_rules.specs.declared.query.Said.{Said}
 use Rattle.query_rules.specs.declared.query.Said.TheVariants.{No, Yes}
-use Rattle.query_rules.specs.Maps.{Maps, PlainMap, reply_of, is_write, after, cas_says}
+use Rattle.query_rules.specs.Maps.{Maps, reply_of, is_write, after, cas_says}
 use Rattle.map_cargo.specs.declared.size.MapCargo.{MapCargo}
 use Rattle.map_cargo.specs.declared.entry.Part.{Part}
 use Rattle.map_cargo.specs.Cells.{Means, lookup}

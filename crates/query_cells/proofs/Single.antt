@@ -1,7 +1,6 @@
 -- Queries of one cell: which cell they speak of, in which mode they hold it, and what may be told of it.
 use Rattle.std.specs.Prelude.{◌≡◌, ◌≢◌, ℕ, ◌<◌, ◌||◌, Bool, true, false, cond, List, [], ◌∷◌, Option, Some, None, slice_index_or}
 use Rattle.std.proofs.Common.{refl, sym, ap, ◌∙◌}
-use Rattle.lock_model.specs.Locks.{Has}
 use Rattle.lock_model.specs.declared.model.Mode.{Mode}
 use Rattle.hall.specs.declared.view.Standing.{Standing}
 use Rattle.hall.specs.declared.view.Standing.TheVariants.{Away}

@@ -1,4 +1,4 @@
-use Rattle.std.proofs.Common.{◌≡◌, ◌∙◌, ap, refl, sym}
+use Rattle.std.proofs.Common.{◌∙◌, ap, refl}
 use Rattle.hall.specs.Cargo.{exclusive_mode}
 use Rattle.hall.specs.Passes.{view, cargo_of}
 use Rattle.hall.specs.Treading.{IsAt, treads_then}
