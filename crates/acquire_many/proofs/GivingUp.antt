@@ -13,10 +13,10 @@ use Rattle.hall.specs.Treading.{treads_as, treads_then}
 use Rattle.hall.specs.Views.{standing}
 use Rattle.acquire_many.specs.Guards.{Fit}
 use Rattle.acquire_many.specs.Met.{IsFor, IsForAny, Refuses, Takes, standing_for}
-use Rattle.acquire_many.specs.MetLaws.{refuses_part, refuses_treads}
+use Rattle.acquire_many.specs.MetLaws.{no_some, refuses_part, refuses_treads, some_same}
 use Rattle.acquire_many.specs.Took.{GaveFirst, GaveUp, IsForHeld, TookBelow}
-use Rattle.acquire_many.specs.Wants.{AreApart, IsLeast, Want, lock_at, most, want_at}
-use Rattle.acquire_many.proofs.Taking.{no_some, some_same}
+use Rattle.acquire_many.specs.Wants.{AreApart, IsLeast, Want, lock_at, want_at}
+use Rattle.acquire_many.specs.declared.guards.TheConstants.{MANY}
 
 module _ {C P : Type 0} (g : Ghosts C P) (wants : List Want) (shape : Shape) (v u z : View P) (from k : ℕ) (holds : List (Option Want)) (fault : TryFault)
     (least : IsLeast wants from k) (t : TookBelow g (Takes g) wants from v holds u) (refused : Refuses g u (want_at wants k) z fault) (elsewhere : ElsewhereSame u z (lock_at wants k)) where
@@ -45,15 +45,15 @@ module _ {C P : Type 0} (g : Ghosts C P) (wants : List Want) (shape : Shape) (v 
   settled_below j x at exclusive = let is = of_want j x at in
       subst (λ (p : P). g.settled x.0 p) (sym same_part) (subst (λ (y : Want). g.settled y.0 u.part) is.2 (t.settled j is.0 is.1))
 
-  module _ (w : View P) (gave : GaveFirst g holds z most w) (was_away : (j : ℕ) → j < length wants → standing v (lock_at wants j) ≡ stand.Away) (away : standing z (lock_at wants k) ≡ stand.Away) where
+  module _ (w : View P) (gave : GaveFirst g holds z MANY w) (was_away : (j : ℕ) → j < length wants → standing v (lock_at wants j) ≡ stand.Away) (away : standing z (lock_at wants k) ≡ stand.Away) where
     lower : (j : ℕ) → j < length wants → lock_at wants j < lock_at wants k → lock_at wants j < from
     lower j near low = ⊎_elim (λ lt. lt) (λ ge. absurd (omega (arith, low, least.2 j near ge))) (cases_lt (lock_at wants j) from)
 
     -- a lock from `from` on was taken by none of the tries
-    not_taken : (lock : ℕ) → from ≤ lock → (j : ℕ) (x : Want) → j < most → slice_index_or holds j None ≡ Some x → x.0 ≢ lock
+    not_taken : (lock : ℕ) → from ≤ lock → (j : ℕ) (x : Want) → j < MANY → slice_index_or holds j None ≡ Some x → x.0 ≢ lock
     not_taken lock high j x few at e = let is = of_want j x at in absurd (omega (arith, high, e, is.1, ap (λ (q : Want). q.0) is.2))
 
-    left : length wants ≤ most → (j : ℕ) → j < length wants → standing w (lock_at wants j) ≡ stand.Away
+    left : length wants ≤ MANY → (j : ℕ) → j < length wants → standing w (lock_at wants j) ≡ stand.Away
     left room j near = ⊎_elim (λ low. given low) (λ high. gave.elsewhere (lock_at wants j) (not_taken (lock_at wants j) high) ∙ still high) (cases_lt (lock_at wants j) from)
       where
         still : from ≤ lock_at wants j → standing z (lock_at wants j) ≡ stand.Away
@@ -61,9 +61,9 @@ module _ {C P : Type 0} (g : Ghosts C P) (wants : List Want) (shape : Shape) (v 
             (λ ne. elsewhere (lock_at wants j) ne ∙ t.elsewhere (lock_at wants j) (λ i near_i low e. absurd (omega (arith, low, e, high))) ∙ was_away j near) (cases_eq (lock_at wants j) (lock_at wants k))
 
         given : lock_at wants j < from → standing w (lock_at wants j) ≡ stand.Away
-        given low = ⊎_elim (λ few. gave.away j (want_at wants j) few (t.held.held j near low)) (λ many. absurd (omega (arith, many, room, near))) (cases_lt j most)
+        given low = ⊎_elim (λ few. gave.away j (want_at wants j) few (t.held.held j near low)) (λ many. absurd (omega (arith, many, room, near))) (cases_lt j MANY)
 
-    pub gave_up : length wants ≤ most → GaveUp g wants v k fault w
+    pub gave_up : length wants ≤ MANY → GaveUp g wants v k fault w
     gave_up few = record {
       near = least.0;
       order = t.order;

@@ -2,4 +2,5 @@ mod Below
 mod Counting
 mod GivingUp
 mod Pairs
+mod Patience
 mod Taking

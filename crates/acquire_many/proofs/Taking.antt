@@ -11,13 +11,19 @@ use Rattle.hall.specs.declared.view.Standing.TheVariants as stand
 use Rattle.hall.specs.declared.view.View.{View}
 use Rattle.hall.specs.Calls.{ElsewhereSame}
 use Rattle.hall.specs.Treading.{Treads, treads_as, treads_none, treads_then}
-use Rattle.hall.specs.Views.{standing}
+use Rattle.hall.specs.Views.{mode_of, standing}
+use Rattle.lock_model.specs.declared.model.Mode.{Mode}
 use Rattle.lock_model.specs.declared.model.Mode.TheVariants as modes
 use Rattle.acquire_many.specs.Guards.{Fit}
-use Rattle.acquire_many.specs.MetLaws.{returns_leave, returns_treads}
+use Rattle.acquire_many.specs.MetLaws.{no_some, returns_leave, returns_treads, some_same}
 use Rattle.acquire_many.specs.Met.{AtFirst, IfThere, Learns, HeldBelow, InTurn, IsFor, IsForAny, Returns, standing_for}
 use Rattle.acquire_many.specs.Took.{GaveFirst, IsForHeld, TookAll, TookBelow}
 use Rattle.acquire_many.specs.Wants.{AllBelow, AreApart, InOrderBelow, IsLeast, Want, lock_at, want_at}
+
+mode_for : (m : Mode) → mode_of (standing_for m) ≡ Some m
+mode_for modes.Shared = refl
+mode_for modes.Upgrade = refl
+mode_for modes.Exclusive = refl
 
 -- a want below the next bound is the one that was just met, or was met before
 below_more : (wants : List Want) (from k j : ℕ) → AreApart wants → IsLeast wants from k → j < length wants → lock_at wants j < lock_at wants k + 1 → (j ≡ k) ⊎ (lock_at wants j < from)
@@ -93,28 +99,22 @@ module _ {C P : Type 0} (g : Ghosts C P) (meets : View P → Want → View P →
     sorted = record { here = λ k near. t.sorted.here k near (all k near); there = λ k has. (t.sorted.there k has).0; falls = t.sorted.falls };
     met = t.met;
     held = record { held = λ k near. t.held.held k near (all k near); none = λ k far. t.held.others k (λ near. absurd (omega (arith, near, far))) };
-    stands = λ k near. t.stands k near (all k near);
+    stands = λ k near. ap mode_of (t.stands k near (all k near)) ∙ mode_for (want_at wants k).1;
     elsewhere = λ lock aside. t.elsewhere lock (λ k near low. aside k near);
     trail = t.trail;
     settled = λ k near. t.settled k near (all k near);
     others = t.others;
   }
 
-pub some_same : (a b : Want) → Some a ≡ Some b → a ≡ b
-some_same a b e = cc
-
-pub no_some : (x : Want) → None ≡ Some x → ⊥
-no_some x e = absurd (cc)
-
-module _ {C P : Type 0} (g : Ghosts C P) (meets : View P → Want → View P → Type 0) (wants : List Want) (shape : Shape) (v w : View P) (holds : List (Option Want)) (t : TookAll g meets wants v holds w) where
+module _ {C P : Type 0} (g : Ghosts C P) (meets : View P → Want → View P → Type 0) (wants : List Want) (shape : Shape) (v w : View P) (from : ℕ) (holds : List (Option Want)) (all : AllBelow wants from) (t : TookBelow g meets wants from v holds w) where
   -- each hold is of a want
   of_want : (k : ℕ) (x : Want) → slice_index_or holds k None ≡ Some x → (k < length wants) × (want_at wants k ≡ x)
-  of_want k x at = ⊎_elim (λ near. (near, some_same (want_at wants k) x (sym (t.held.held k near) ∙ at))) (λ far. absurd (no_some x (sym (t.held.none k far) ∙ at))) (cases_lt k (length wants))
+  of_want k x at = ⊎_elim (λ near. (near, some_same (want_at wants k) x (sym (t.held.held k near (all k near)) ∙ at))) (λ far. absurd (no_some x (sym (t.held.others k (λ near. absurd (omega (arith, near, far)))) ∙ at))) (cases_lt k (length wants))
 
   -- the guards fit
   pub fit_all : ((k : ℕ) → k < length wants → lock_at wants k < shape.locks) → AreApart wants → Fit shape w holds
   fit_all locks apart = record {
-    each = λ k x at. let is = of_want k x at in subst (λ (y : Want). (y.0 < shape.locks) × (standing w y.0 ≡ standing_for y.1)) is.1 (locks k is.0, t.stands k is.0);
+    each = λ k x at. let is = of_want k x at in subst (λ (y : Want). (y.0 < shape.locks) × (standing w y.0 ≡ standing_for y.1)) is.1 (locks k is.0, t.stands k is.0 (all k is.0));
     apart = λ j k x y at_j at_k ne same.
         let a = of_want j x at_j in let b = of_want k y at_k in let e : lock_at wants j ≡ lock_at wants k = ap (λ (z : Want). z.0) a.1 ∙ same ∙ sym (ap (λ (z : Want). z.0) b.1) in
         ⊎_elim (λ lt. absurd (apart k b.0 (j, lt, e))) (λ ge. absurd (apart j a.0 (k, omega (arith, ge, ne), sym e))) (cases_lt j k);

@@ -11,7 +11,7 @@ use Rattle.hall.specs.declared.view.View.{View}
 use Rattle.hall.specs.Plays.{GivesBack, Releases}
 use Rattle.hall.specs.Upgrading.{LeavesUpgrade}
 use Rattle.shared_mutex.specs.Acquiring.{RefusesExclusive, RefusesShared, TakesExclusive, TakesShared}
-use Rattle.shared_mutex.specs.Tries.{EntersAtLast, WritesAtLast}
+use Rattle.shared_mutex.specs.Tries.{AddsSteps, EntersAtLast, IsPatientTry, WritesAtLast}
 use Rattle.upgrade_mode.specs.Holding.{EntersUpgrade, RefusesUpgrade}
 use Rattle.upgrade_mode.specs.Tries.{EntersUpgradeAtLast}
 use Rattle.acquire_many.specs.Wants.{Want, want_at, lock_at, InOrderBelow}
@@ -36,6 +36,10 @@ module _ {C P : Type 0} (g : Ghosts C P) where
   Meets v (lock, modes.Shared) w = (faults : List TryFault) × EntersAtLast g v lock faults w
   Meets v (lock, modes.Upgrade) w = (faults : List TryFault) × EntersUpgradeAtLast g v lock faults w
   Meets v (lock, modes.Exclusive) w = (faults : List TryFault) × (misses : List TryFault) × WritesAtLast g v lock faults misses w
+
+  -- and each step on the way was a patient waiter's: it was for the lock, by a pass that held no mode there, and took no announcement back
+  abbrev pub MeetsPatiently : View P → Want → View P → Type 0
+  MeetsPatiently v want w = Meets v want w × AddsSteps (IsPatientTry v want.0) v w
 
   -- one try took the lock in this mode
   abbrev pub Takes : View P → Want → View P → Type 0

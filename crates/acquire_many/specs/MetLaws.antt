@@ -1,6 +1,7 @@
 -- Laws of wants that were met: what the pass learnt, its footprints, and what its part says of other locks.
 use Rattle.std.specs.Prelude.{◌≡◌, ◌≢◌, ℕ, zero, suc, ◌+◌, ◌<◌, Bool, true, false, List, [], ◌∷◌, length, slice_index_or, Option, Some, None}
 use Rattle.std.proofs.Common.{refl, sym, ap, ◌∙◌, subst, inl, inr, ⊎_elim}
+use Rattle.std.proofs.lemmas.Bool.{cases_lt}
 use Rattle.lock_model.specs.declared.model.Mode.{Mode}
 use Rattle.lock_model.specs.declared.model.Mode.TheVariants as modes
 use Rattle.lock_model.specs.Locks.{Has}
@@ -22,8 +23,18 @@ use Rattle.shared_mutex.specs.TrailLaws.{enters_treads, gives_back_treads, looke
 use Rattle.shared_mutex.specs.TryLaws.{looked_once, reader_looked, writer_looked}
 use Rattle.upgrade_mode.specs.Holding.{EntersUpgrade}
 use Rattle.upgrade_mode.specs.Tries.{upgrader_looked}
-use Rattle.acquire_many.specs.Met.{IsFor, Learns, Meets, Refuses, Returns, Takes, standing_for}
-use Rattle.acquire_many.specs.Wants.{Want}
+use Rattle.acquire_many.specs.Met.{HeldAll, IsFor, Learns, Meets, Refuses, Returns, Takes, standing_for}
+use Rattle.acquire_many.specs.Wants.{Want, want_at}
+
+-- a hold that stands at a position is of the want there
+pub some_same : (a b : Want) → Some a ≡ Some b → a ≡ b
+some_same a b e = cc
+
+pub no_some : (x : Want) → None ≡ Some x → ⊥
+no_some x e = absurd (cc)
+
+pub of_held : (wants : List Want) (holds : List (Option Want)) → HeldAll wants holds → (k : ℕ) (x : Want) → slice_index_or holds k None ≡ Some x → (k < length wants) × (want_at wants k ≡ x)
+of_held wants holds h k x at = ⊎_elim (λ near. (near, some_same (want_at wants k) x (sym (h.held k near) ∙ at))) (λ far. absurd (no_some x (sym (h.none k far) ∙ at))) (cases_lt k (length wants))
 
 no_both : (b : Bool) → b ≡ false → b ≡ true → ⊥
 no_both b f t = absurd (cc)

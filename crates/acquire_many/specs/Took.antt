@@ -7,11 +7,12 @@ use Rattle.hall.specs.declared.view.Footprint.{Footprint}
 use Rattle.hall.specs.declared.view.Standing.TheVariants as stand
 use Rattle.hall.specs.declared.view.View.{View}
 use Rattle.hall.specs.Treading.{Treads}
-use Rattle.hall.specs.Views.{standing}
+use Rattle.hall.specs.Views.{mode_of, standing}
+use Rattle.acquire_many.specs.declared.guards.TheConstants.{MANY}
 use Rattle.acquire_many.specs.declared.many.ManyFault.{ManyFault}
 use Rattle.acquire_many.specs.declared.many.ManyFault.TheVariants as faults
 use Rattle.acquire_many.specs.Met.{AtFirst, HeldAll, HeldBelow, InTurn, IsFor, IsForAny, Refuses, Returns, Takes, standing_for}
-use Rattle.acquire_many.specs.Wants.{InOrder, InOrderBelow, IsFirstTwice, Want, lock_at, most, want_at}
+use Rattle.acquire_many.specs.Wants.{InOrder, InOrderBelow, IsFirstTwice, Want, lock_at, want_at}
 
 module _ {C P : Type 0} (g : Ghosts C P) (meets : View P → Want → View P → Type 0) (wants : List Want) where
   -- the wants with locks below `from` were met, those with lower locks first
@@ -26,13 +27,13 @@ module _ {C P : Type 0} (g : Ghosts C P) (meets : View P → Want → View P →
     pub settled : (k : ℕ) → k < length wants → lock_at wants k < from → g.settled (lock_at wants k) w.part
     pub others : (lock : ℕ) → ((k : ℕ) → k < length wants → lock_at wants k ≢ lock) → g.settled lock v.part → g.settled lock w.part
 
-  -- All wants were met, those with lower locks first. The guards stand by the positions of the wants; the pass stands at each lock as it was wanted, and elsewhere as before; its part is settled for each lock, and for the others where it was. Only for wants in stronger modes than shared are there strong footprints
+  -- All wants were met, those with lower locks first. The guards stand by the positions of the wants; the pass holds each lock in the mode in which it was wanted, and stands elsewhere as before; its part is settled for each lock, and for the others where it was. Only for wants in stronger modes than shared are there strong footprints
   pub record TookAll (v : View P) (holds : List (Option Want)) (w : View P) : Type 0 where
     pub order : List ℕ
     pub sorted : InOrder wants order
     pub met : InTurn meets wants v order w
     pub held : HeldAll wants holds
-    pub stands : (k : ℕ) → k < length wants → standing w (lock_at wants k) ≡ standing_for (want_at wants k).1
+    pub stands : (k : ℕ) → k < length wants → mode_of (standing w (lock_at wants k)) ≡ Some (want_at wants k).1
     pub elsewhere : (lock : ℕ) → ((k : ℕ) → k < length wants → lock_at wants k ≢ lock) → standing w lock ≡ standing v lock
     pub trail : Treads (IsForAny wants) v w
     pub settled : (k : ℕ) → k < length wants → g.settled (lock_at wants k) w.part
@@ -67,7 +68,7 @@ module _ {C P : Type 0} (g : Ghosts C P) (wants : List Want) where
     pub refused : Refuses g before (want_at wants index) after fault
     pub holds : List (Option Want)
     pub held : HeldBelow wants (lock_at wants index) holds
-    pub returned : AtFirst (Returns g) holds after most w
+    pub returned : AtFirst (Returns g) holds after MANY w
     pub away : (k : ℕ) → k < length wants → standing w (lock_at wants k) ≡ stand.Away
     pub elsewhere : (lock : ℕ) → ((k : ℕ) → k < length wants → lock_at wants k ≢ lock) → standing w lock ≡ standing v lock
     pub trail : Treads (IsForAny wants) v w

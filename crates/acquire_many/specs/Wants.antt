@@ -4,10 +4,6 @@ use Rattle.lock_model.specs.declared.model.Mode.{Mode}
 use Rattle.lock_model.specs.declared.model.Mode.TheVariants as modes
 use Rattle.lock_model.specs.Locks.{Has}
 
--- the most locks that a call takes
-abbrev pub most : ℕ
-most = 2
-
 -- a lock and the mode in which it is wanted
 abbrev pub Want : Type 0
 Want = ℕ × Mode

@@ -1,7 +1,6 @@
 //! The guards of several locks, by the position of their wants.
 ghost use Rattle.std.specs.Prelude.{◌≡◌, ℕ, None, length, slice_index_or};
 ghost use Rattle.acquire_many.specs.Guards.{said_by, says, want_of};
-ghost use Rattle.acquire_many.specs.Wants.{most};
 
 use hall::{ExclusiveGuard, Mode, SharedGuard, UpgradeGuard};
 
@@ -67,7 +66,7 @@ fn hold_in(guard: Option<OneGuard>) -> Option<(u64, Mode)>
 /// No hold at any position.
 pub(crate) fn no_holds() -> [Option<(u64, Mode)>; MANY]
     ensures none { (k : ℕ) → slice_index_or result k None ≡ None }
-    ensures room { length result ≡ most }
+    ensures room { length result ≡ MANY }
 {
     [None; MANY]
 }

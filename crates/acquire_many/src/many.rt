@@ -6,9 +6,9 @@ ghost use Rattle.hall.specs.Views.{standing};
 ghost use Rattle.hall.specs.declared.view.Standing.TheVariants.{Away};
 ghost use Rattle.shared_mutex.specs.Acquiring.{MadeAtMost};
 ghost use Rattle.acquire_many.specs.Guards.{Fit, said_by};
-ghost use Rattle.acquire_many.specs.Met.{Meets, Takes};
+ghost use Rattle.acquire_many.specs.Met.{MeetsPatiently, Takes};
 ghost use Rattle.acquire_many.specs.Took.{GaveFirst, TookAll, TookNone};
-ghost use Rattle.acquire_many.specs.Wants.{IsFirstTwice, Want, lock_at, most};
+ghost use Rattle.acquire_many.specs.Wants.{IsFirstTwice, Want, lock_at};
 
 use crate::guards::{Guards, MANY, guards_of, holds_in, no_holds};
 use crate::one::{give_at, take, try_to_take};
@@ -43,6 +43,9 @@ pub enum ManyFault {
 /// taken in the order of their numbers, whatever the order of the list, and the guards stand by the position of the want.
 /// An empty list gives no guard and makes no step. Its contract holds if it returns.
 ///
+/// Each step that it makes before it holds a lock is for that lock, by a pass that holds no mode there, and none takes an
+/// announcement back: a writer stays announced between its tries, and a reader's try that is refused only looks.
+///
 /// `SameCell` comes exactly where two wants name one lock; then no step was made.
 pub fn lock_many<R: Wait, C: Cargo>(
     rt: &R,
@@ -51,11 +54,11 @@ pub fn lock_many<R: Wait, C: Cargo>(
     wants: &[(u64, Mode)],
 ) -> Result<Guards, SameCell>
     requires pass { IsPassOf hall.now pass.old }
-    requires few { length wants.now ≤ most }
+    requires few { length wants.now ≤ MANY }
     requires locks { (k : ℕ) → k < length wants.now → lock_at wants.now k < (shape_of hall.now).locks }
     requires away { (k : ℕ) → k < length wants.now → standing (view pass.old) (lock_at wants.now k) ≡ Away }
     ensures pass { IsPassOf hall.now pass.new }
-    ensures took { MatchResult result (λ guards. TookAll C.CargoRule (Meets C.CargoRule) wants.now (view pass.old) (said_by guards) (view pass.new)) (λ same. IsFirstTwice wants.now same.index × (view pass.new ≡ view pass.old)) }
+    ensures took { MatchResult result (λ guards. TookAll C.CargoRule (MeetsPatiently C.CargoRule) wants.now (view pass.old) (said_by guards) (view pass.new)) (λ same. IsFirstTwice wants.now same.index × (view pass.new ≡ view pass.old)) }
     ensures fits { MatchResult result (λ guards. Fit (shape_of hall.now) (view pass.new) (said_by guards)) (λ _. view pass.new ≡ view pass.old) }
 {
     if let Some(position) = same_at(wants) {
@@ -86,13 +89,13 @@ pub fn try_many<C: Cargo>(
     wants: &[(u64, Mode)],
 ) -> Result<Guards, ManyFault>
     requires pass { IsPassOf hall.now pass.old }
-    requires few { length wants.now ≤ most }
+    requires few { length wants.now ≤ MANY }
     requires locks { (k : ℕ) → k < length wants.now → lock_at wants.now k < (shape_of hall.now).locks }
     requires away { (k : ℕ) → k < length wants.now → standing (view pass.old) (lock_at wants.now k) ≡ Away }
     ensures pass { IsPassOf hall.now pass.new }
     ensures took { MatchResult result (λ guards. TookAll C.CargoRule (Takes C.CargoRule) wants.now (view pass.old) (said_by guards) (view pass.new)) (λ fault. TookNone C.CargoRule wants.now (view pass.old) fault (view pass.new)) }
     ensures fits { IfOk result (λ guards. Fit (shape_of hall.now) (view pass.new) (said_by guards)) }
-    ensures steps { MadeAtMost (view pass.old) (view pass.new) ((2 * (shape_of hall.now).slots + 5) * length wants.now + most) }
+    ensures steps { MadeAtMost (view pass.old) (view pass.new) ((2 * (shape_of hall.now).slots + 5) * length wants.now + MANY) }
 {
     if let Some(position) = same_at(wants) {
         return Err(ManyFault::Same {
@@ -123,8 +126,8 @@ pub fn unlock_many<C: Cargo>(hall: &Hall<C>, pass: &mut Pass<C>, guards: Guards)
     requires fits { Fit (shape_of hall.now) (view pass.old) (said_by guards) }
     requires settled { (k : ℕ) (x : Want) → slice_index_or (said_by guards) k None ≡ Some x → x.1 ≡ modes.Exclusive → C.settled x.0 (view pass.old).part }
     ensures pass { IsPassOf hall.now pass.new }
-    ensures gave { GaveFirst C.CargoRule (said_by guards) (view pass.old) most (view pass.new) }
-    ensures steps { MadeAtMost (view pass.old) (view pass.new) most }
+    ensures gave { GaveFirst C.CargoRule (said_by guards) (view pass.old) MANY (view pass.new) }
+    ensures steps { MadeAtMost (view pass.old) (view pass.new) MANY }
 {
     give_all_back(hall, pass, &holds_in(guards));
 }
@@ -135,8 +138,8 @@ fn give_all_back<C: Cargo>(hall: &Hall<C>, pass: &mut Pass<C>, holds: &[Option<(
     requires fits { Fit (shape_of hall.now) (view pass.old) holds.now }
     requires settled { (k : ℕ) (x : Want) → slice_index_or holds.now k None ≡ Some x → x.1 ≡ modes.Exclusive → C.settled x.0 (view pass.old).part }
     ensures pass { IsPassOf hall.now pass.new }
-    ensures gave { GaveFirst C.CargoRule holds.now (view pass.old) most (view pass.new) }
-    ensures steps { MadeAtMost (view pass.old) (view pass.new) most }
+    ensures gave { GaveFirst C.CargoRule holds.now (view pass.old) MANY (view pass.new) }
+    ensures steps { MadeAtMost (view pass.old) (view pass.new) MANY }
 {
     for position in 0..MANY {
         give_at(hall, pass, holds[position]);

@@ -2,11 +2,10 @@
 ghost use Rattle.std.specs.Prelude.{◌≡◌, ◌≢◌, ℕ, ◌+◌, ◌*◌, ◌<◌, IfSome, MatchOption, MatchResult};
 ghost use Rattle.lock_model.specs.declared.model.Mode.TheVariants as modes;
 ghost use Rattle.hall.specs.Passes.{view, IsPassOf, shape_of};
-ghost use Rattle.hall.specs.Treading.{Treads};
 ghost use Rattle.hall.specs.Views.{standing};
 ghost use Rattle.hall.specs.declared.view.Standing.TheVariants.{Away};
 ghost use Rattle.shared_mutex.specs.Acquiring.{ElsewhereSame, MadeAtMost};
-ghost use Rattle.acquire_many.specs.Met.{IsFor, Learns, Meets, Refuses, Returns, Takes, standing_for};
+ghost use Rattle.acquire_many.specs.Met.{MeetsPatiently, Refuses, Returns, Takes, standing_for};
 
 use crate::guards::{OneGuard, guard_of};
 use crate::waits::{enter, rise, write};
@@ -21,7 +20,7 @@ pub(crate) fn take<R: Wait, C: Cargo>(rt: &R, hall: &Hall<C>, pass: &mut Pass<C>
     requires lock { want.0 < (shape_of hall.now).locks }
     requires away { standing (view pass.old) want.0 ≡ Away }
     ensures pass { IsPassOf hall.now pass.new }
-    ensures step { Meets C.CargoRule (view pass.old) want (view pass.new) }
+    ensures step { MeetsPatiently C.CargoRule (view pass.old) want (view pass.new) }
     ensures stands { standing (view pass.new) want.0 ≡ standing_for want.1 }
     ensures elsewhere { ElsewhereSame (view pass.old) (view pass.new) want.0 }
 {

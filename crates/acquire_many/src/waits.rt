@@ -9,7 +9,7 @@ ghost use Rattle.hall.specs.Views.{standing};
 ghost use Rattle.hall.specs.declared.guards.TryFault.{TryFault};
 ghost use Rattle.hall.specs.declared.view.Standing.TheVariants.{Away, Announcing, Exclusive, Inline, Upgrade};
 ghost use Rattle.shared_mutex.specs.Acquiring.{ElsewhereSame, RefusesAnnouncing};
-ghost use Rattle.shared_mutex.specs.Tries.{AnnouncesAndSweeps, AnnouncesAtLast, EntersAtLast, HoldsAtLast, WritesAtLast};
+ghost use Rattle.shared_mutex.specs.Tries.{AddsSteps, AnnouncesAndSweeps, AnnouncesAtLast, EntersAtLast, HoldsAtLast, IsPatientTry, WritesAtLast};
 ghost use Rattle.upgrade_mode.specs.Tries.{EntersUpgradeAtLast};
 
 use apply_deferred::scan;
@@ -34,6 +34,7 @@ pub(crate) fn enter<R: Wait, C: Cargo>(
     ensures stands { standing (view pass.new) lock ≡ Inline }
     ensures elsewhere { ElsewhereSame (view pass.old) (view pass.new) lock }
     ensures step { (faults : List TryFault) × EntersAtLast C.CargoRule (view pass.old) lock faults (view pass.new) }
+    ensures patient { AddsSteps (IsPatientTry (view pass.old) lock) (view pass.old) (view pass.new) }
 {
     for _ in rt.forever() {
         match try_lock_shared(hall, pass, lock) {
@@ -59,6 +60,7 @@ pub(crate) fn rise<R: Wait, C: Cargo>(
     ensures stands { standing (view pass.new) lock ≡ Upgrade }
     ensures elsewhere { ElsewhereSame (view pass.old) (view pass.new) lock }
     ensures step { (faults : List TryFault) × EntersUpgradeAtLast C.CargoRule (view pass.old) lock faults (view pass.new) }
+    ensures patient { AddsSteps (IsPatientTry (view pass.old) lock) (view pass.old) (view pass.new) }
 {
     for _ in rt.forever() {
         match try_lock_upgrade(hall, pass, lock) {
@@ -167,6 +169,7 @@ pub(crate) fn write<R: Wait, C: Cargo>(
     ensures stands { standing (view pass.new) lock ≡ Exclusive }
     ensures elsewhere { ElsewhereSame (view pass.old) (view pass.new) lock }
     ensures step { (faults : List TryFault) × (misses : List TryFault) × WritesAtLast C.CargoRule (view pass.old) lock faults misses (view pass.new) }
+    ensures patient { AddsSteps (IsPatientTry (view pass.old) lock) (view pass.old) (view pass.new) }
 {
     let Announced {
         lock: _,

@@ -1,7 +1,7 @@
 use Rattle.std.proofs.Common.{◌≡◌, List, Option, arith, rules, subst, sym, ◌∙◌, length-set}
 use Rattle.hall.specs.Passes.{view, shape_of}
 use Rattle.acquire_many.specs.Guards.{Fit}
-use Rattle.acquire_many.specs.Met.{Meets}
+use Rattle.acquire_many.specs.Met.{MeetsPatiently}
 use Rattle.acquire_many.specs.MetLaws.{meets_learns, meets_treads}
 use Rattle.acquire_many.specs.Took.{TookAll}
 use Rattle.acquire_many.specs.Wants.{Want}
@@ -9,22 +9,21 @@ use Rattle.acquire_many.proofs.Taking.{fit_all, took_all, took_by, took_none}
 use Rattle.acquire_many.proofs.many.lock_many.Goals as goal
 
 pub loop-position-init : goal.loop-position-init
-loop-position-init g c = record { pass = c.requires.pass; room = c.no_holds-holds.ensures.room; took = took_none g.C.CargoRule (Meets g.C.CargoRule) c.args.wants.now (view c.args.pass.now) c.no_holds-holds.result c.no_holds-holds.ensures.none }
+loop-position-init g c = record { pass = c.requires.pass; room = c.no_holds-holds.ensures.room; took = took_none g.C.CargoRule (MeetsPatiently g.C.CargoRule) c.args.wants.now (view c.args.pass.now) c.no_holds-holds.result c.no_holds-holds.ensures.none }
 
 pub loop-position-preserved : goal.loop-position-preserved
 loop-position-preserved g c =
     let so_far = c.loop-position.invariant in let least = c.in-Some-next_want.ensures in let k = c.in-Some-next_want.position in record {
       pass = search rules;
       room = length-set _ _ _ ∙ so_far.room;
-      took = took_by g.C.CargoRule (Meets g.C.CargoRule) c.args.wants.now (view c.args.pass.now) c.loop-position.from k c.loop-position.holds (view c.loop-position.pass) (view c.take.new.pass) c.in_default.ensures least so_far.took
-          (meets_treads g.C.CargoRule) (meets_learns g.C.CargoRule) (omega (arith, so_far.room, c.requires.few, least.0)) (c.requires.away k least.0) c.take.ensures.step c.take.ensures.stands c.take.ensures.elsewhere;
+      took = took_by g.C.CargoRule (MeetsPatiently g.C.CargoRule) c.args.wants.now (view c.args.pass.now) c.loop-position.from k c.loop-position.holds (view c.loop-position.pass) (view c.take.new.pass) c.in_default.ensures least so_far.took
+          (λ x y want away met. meets_treads g.C.CargoRule x y want away met.0) (λ x y want met. meets_learns g.C.CargoRule x y want met.0) (omega (arith, so_far.room, c.requires.few, least.0)) (c.requires.away k least.0) c.take.ensures.step c.take.ensures.stands c.take.ensures.elsewhere;
     }
 
 pub returns-clause-took : goal.returns-clause-took
-returns-clause-took g c = subst (λ (l : List (Option Want)). TookAll g.C.CargoRule (Meets g.C.CargoRule) c.args.wants.now (view c.args.pass.now) l (view c.loop-position.pass)) (sym c.guards_of.ensures)
-    (took_all g.C.CargoRule (Meets g.C.CargoRule) c.args.wants.now (view c.args.pass.now) c.loop-position.from c.loop-position.holds (view c.loop-position.pass) c.in_default-next_want.ensures c.loop-position.invariant.took)
+returns-clause-took g c = subst (λ (l : List (Option Want)). TookAll g.C.CargoRule (MeetsPatiently g.C.CargoRule) c.args.wants.now (view c.args.pass.now) l (view c.loop-position.pass)) (sym c.guards_of.ensures)
+    (took_all g.C.CargoRule (MeetsPatiently g.C.CargoRule) c.args.wants.now (view c.args.pass.now) c.loop-position.from c.loop-position.holds (view c.loop-position.pass) c.in_default-next_want.ensures c.loop-position.invariant.took)
 
 pub returns-clause-fits : goal.returns-clause-fits
 returns-clause-fits g c =
-    let all = took_all g.C.CargoRule (Meets g.C.CargoRule) c.args.wants.now (view c.args.pass.now) c.loop-position.from c.loop-position.holds (view c.loop-position.pass) c.in_default-next_want.ensures c.loop-position.invariant.took in
-    subst (λ (l : List (Option Want)). Fit (shape_of c.args.hall.now) (view c.loop-position.pass) l) (sym c.guards_of.ensures) (fit_all g.C.CargoRule (Meets g.C.CargoRule) c.args.wants.now (shape_of c.args.hall.now) (view c.args.pass.now) (view c.loop-position.pass) c.loop-position.holds all c.requires.locks c.in_default.ensures)
+    subst (λ (l : List (Option Want)). Fit (shape_of c.args.hall.now) (view c.loop-position.pass) l) (sym c.guards_of.ensures) (fit_all g.C.CargoRule (MeetsPatiently g.C.CargoRule) c.args.wants.now (shape_of c.args.hall.now) (view c.args.pass.now) (view c.loop-position.pass) c.loop-position.from c.loop-position.holds c.in_default-next_want.ensures c.loop-position.invariant.took c.requires.locks c.in_default.ensures)

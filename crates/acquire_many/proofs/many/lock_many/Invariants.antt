@@ -1,16 +1,16 @@
 use Rattle.std.proofs.Common.{◌≡◌, ◌-◌, length}
 use Rattle.hall.specs.Passes.{view, IsPassOf, shape_of}
-use Rattle.acquire_many.specs.Met.{Meets}
+use Rattle.acquire_many.specs.Met.{MeetsPatiently}
 use Rattle.acquire_many.specs.Took.{TookBelow}
-use Rattle.acquire_many.specs.Wants.{most}
+use Rattle.acquire_many.specs.declared.guards.TheConstants.{MANY}
 use Rattle.acquire_many.proofs.many.lock_many.Given as goal
 
 -- all wants with locks below `from` are held, and no others
 abbrev pub invariant-loop-position : goal.invariant-loop-position
 invariant-loop-position g l = record {
   pass : IsPassOf l.hall l.pass;
-  room : length l.holds ≡ most;
-  took : TookBelow g.C.CargoRule (Meets g.C.CargoRule) l.wants l.from (view l.fn.pass) l.holds (view l.pass);
+  room : length l.holds ≡ MANY;
+  took : TookBelow g.C.CargoRule (MeetsPatiently g.C.CargoRule) l.wants l.from (view l.fn.pass) l.holds (view l.pass);
 }
 
 abbrev pub decreases-loop-position : goal.decreases-loop-position

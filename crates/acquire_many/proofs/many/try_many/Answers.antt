@@ -30,8 +30,7 @@ returns-clause-took g c = subst (λ (l : List (Option Want)). TookAll g.C.CargoR
 
 pub returns-clause-fits : goal.returns-clause-fits
 returns-clause-fits g c =
-    let all = took_all g.C.CargoRule (Takes g.C.CargoRule) c.args.wants.now (view c.args.pass.now) c.loop-position.from c.loop-position.holds (view c.loop-position.pass) c.in_default-next_want.ensures c.loop-position.invariant.took in
-    subst (λ (l : List (Option Want)). Fit (shape_of c.args.hall.now) (view c.loop-position.pass) l) (sym c.guards_of.ensures) (fit_all g.C.CargoRule (Takes g.C.CargoRule) c.args.wants.now (shape_of c.args.hall.now) (view c.args.pass.now) (view c.loop-position.pass) c.loop-position.holds all c.requires.locks c.in_default.ensures)
+    subst (λ (l : List (Option Want)). Fit (shape_of c.args.hall.now) (view c.loop-position.pass) l) (sym c.guards_of.ensures) (fit_all g.C.CargoRule (Takes g.C.CargoRule) c.args.wants.now (shape_of c.args.hall.now) (view c.args.pass.now) (view c.loop-position.pass) c.loop-position.from c.loop-position.holds c.in_default-next_want.ensures c.loop-position.invariant.took c.requires.locks c.in_default.ensures)
 
 pub give_all_back-requires-clause-fits : goal.give_all_back-requires-clause-fits
 give_all_back-requires-clause-fits g c = λ _ _. let e = c.in-Err.ensures in

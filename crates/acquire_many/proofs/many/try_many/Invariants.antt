@@ -2,7 +2,7 @@ use Rattle.std.proofs.Common.{◌≡◌, ◌+◌, ◌-◌, ◌*◌, ◌≤◌, l
 use Rattle.hall.specs.Passes.{view, IsPassOf, shape_of}
 use Rattle.acquire_many.specs.Met.{Takes}
 use Rattle.acquire_many.specs.Took.{TookBelow}
-use Rattle.acquire_many.specs.Wants.{most}
+use Rattle.acquire_many.specs.declared.guards.TheConstants.{MANY}
 use Rattle.acquire_many.proofs.Counting.{below}
 use Rattle.acquire_many.proofs.many.try_many.Given as goal
 
@@ -10,7 +10,7 @@ use Rattle.acquire_many.proofs.many.try_many.Given as goal
 abbrev pub invariant-loop-position : goal.invariant-loop-position
 invariant-loop-position g l = record {
   pass : IsPassOf l.hall l.pass;
-  room : length l.holds ≡ most;
+  room : length l.holds ≡ MANY;
   took : TookBelow g.C.CargoRule (Takes g.C.CargoRule) l.wants l.from (view l.fn.pass) l.holds (view l.pass);
   steps : length (view l.pass).steps ≤ length (view l.fn.pass).steps + (2 * (shape_of l.hall).slots + 5) * below l.wants l.from;
 }

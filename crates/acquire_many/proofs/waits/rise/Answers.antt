@@ -1,10 +1,16 @@
 use Rattle.std.proofs.Common.{rules, ◌∷◌}
 use Rattle.hall.specs.Passes.{view}
 use Rattle.upgrade_mode.specs.Tries.{upgraders_looked}
+use Rattle.acquire_many.proofs.Patience.{patient_upgrader}
 use Rattle.acquire_many.proofs.waits.rise.Goals as goal
 
 pub returns-in-Ok-clause-step : goal.returns-in-Ok-clause-step
 returns-in-Ok-clause-step g c = let so_far = c.loop.invariant.refused in let u = view c.loop.pass in (so_far.0, (u, so_far.1, upgraders_looked _ (view c.args.pass.now) c.args.lock u so_far.0 so_far.1, c.in-Ok.ensures.step.1))
+
+pub returns-in-Ok-clause-patient : goal.returns-in-Ok-clause-patient
+returns-in-Ok-clause-patient g c =
+    let so_far = c.loop.invariant.refused in let v = view c.args.pass.now in let u = view c.loop.pass in
+    patient_upgrader g.C.CargoRule v (view c.try_lock_upgrade.new.pass) c.args.lock c.requires.away so_far.0 (u, so_far.1, upgraders_looked _ v c.args.lock u so_far.0 so_far.1, c.in-Ok.ensures.step.1)
 
 pub loop-preserved : goal.loop-preserved
 loop-preserved g c =
