@@ -12,6 +12,7 @@ ghost use Rattle.hall.specs.declared.view.Standing.TheVariants.{Announcing};
 ghost use Rattle.hall.specs.Calls.{ElsewhereSame, MadeAtMost};
 ghost use Rattle.hall.specs.Fitting.{AnnouncedFits};
 ghost use Rattle.hall.specs.Passes.{view, IsPassOf, shape_of};
+ghost use Rattle.hall.specs.Slotting.{HasNonePending};
 ghost use Rattle.hall.specs.Views.{standing};
 ghost use Rattle.apply_deferred.specs.Sweeping.{SweepsSlot, Sweeps};
 
@@ -44,6 +45,7 @@ pub fn scan<C: Cargo>(hall: &Hall<C>, pass: &mut Pass<C>, announced: &mut Announ
     ensures announced { announced.new ≡ record announced.old { swept = true } }
     ensures fits { AnnouncedFits (shape_of hall.now) (view pass.new) announced.new }
     ensures sweep { Sweeps C.CargoRule announced.old.lock (shape_of hall.now).slots result (view pass.old) (view pass.new) }
+    ensures clear { HasNonePending (view pass.old) → HasNonePending (view pass.new) }
     ensures elsewhere { ElsewhereSame (view pass.old) (view pass.new) announced.old.lock }
     ensures steps { MadeAtMost (view pass.old) (view pass.new) (2 * (shape_of hall.now).slots + 1) }
 {

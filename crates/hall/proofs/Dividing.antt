@@ -29,14 +29,10 @@ use Rattle.hall.specs.Rule.{Holds, Formed, AllFormed, cargo_seat}
 use Rattle.hall.specs.NumberLaws.{within-add, within-none, within-yes, steps_apart}
 use Rattle.hall.specs.Cargo.{CargoSeat}
 use Rattle.hall.proofs.Cargoes.{mode_at}
+use Rattle.hall.specs.SlotLaws.{away_in}
 use Rattle.hall.proofs.Locking.{same_tally, swept_same}
 use Rattle.hall.proofs.Trailing.{Others_stay, IsTrodden_stays, Has-behind}
 use Rattle.view_sums.specs.Sums.{total-append, total-set, total-same, one_there, term_le}
-
-pub away_in : (n k : ℕ) → get_or (replicate n Away) k Away ≡ Away
-away_in zero k = refl
-away_in (suc n) zero = refl
-away_in (suc n) (suc k) = away_in n k
 
 pub none_pending : (n : ℕ) → total pending (replicate n Away) ≡ 0
 none_pending zero = refl

@@ -21,7 +21,8 @@ use Rattle.hall.specs.declared.view.StepEntry.{StepEntry}
 use Rattle.hall.specs.declared.view.Footprint.{Footprint}
 use Rattle.hall.specs.Rule.{Holds, Formed, cargo_seat, first_view}
 use Rattle.hall.proofs.Locking.{same_tally}
-use Rattle.hall.proofs.Dividing.{away_in, none_pending}
+use Rattle.hall.proofs.Dividing.{none_pending}
+use Rattle.hall.specs.SlotLaws.{away_in}
 use Rattle.hall.proofs.Slots.{names_no}
 use Rattle.hall.proofs.Cargoes.{mode_at}
 

@@ -19,7 +19,8 @@ use Rattle.hall.specs.ShownLaws.{Alone, entry, shown_spent, shown_living}
 use Rattle.hall.specs.NumberLaws.{numbers_differ}
 use Rattle.hall.specs.Views.{standing, split_left, split_right, joined_view, spent_view}
 use Rattle.hall.specs.Partings.{Met, SplitMoment, SplitKeeps, JoinKeeps}
-use Rattle.hall.proofs.Dividing.{away_in, splits, joins}
+use Rattle.hall.proofs.Dividing.{splits, joins}
+use Rattle.hall.specs.SlotLaws.{away_in}
 
 -- a seat that is outside may stand in the list or not
 role_last : (l : List SeatRole) (n seat : ℕ) → role_in (l ++ seat_role n Outside ∷ []) seat ≡ role_in l seat

@@ -6,6 +6,28 @@ use state_word::Word;
 #[derive(Debug)]
 pub struct SharedGuard {
     pub lock: u64,
+    /// Where its unit stands, and why there.
+    pub form: Form,
+}
+
+/// How a shared hold came, and by that where its unit stands.
+#[derive(Clone, Copy, Debug, PartialEq, Eq)]
+pub enum Form {
+    /// By a token in this slot. The lock's word wasn't written.
+    Deferred { slot: u64 },
+    /// By a step that counted it in the lock's word.
+    Inline { why: Why },
+    /// From a stronger hold, by a step that counted it in the lock's word.
+    Lowered,
+}
+
+/// What forced a reader into the count.
+#[derive(Clone, Copy, Debug, PartialEq, Eq)]
+pub enum Why {
+    /// This word was read in the call that entered. Its may-defer bit is clear, and the reader entered from it.
+    NoDefer { word: Word },
+    /// These words, neither of them 0, were found in the call that entered in the seat's two slots.
+    SlotsTaken { seen: [u64; 2] },
 }
 
 /// An upgrade hold of a lock: beside readers, and alone among those that may write. It must be given back by an unlock,

@@ -27,6 +27,7 @@ pub struct Hall<C: Cargo> {
     ghost carries: { cargo ≡ table.shared.key.cargo },
     ghost sized: { (slots ≡ table.shared.key.shape.slots) × (locks ≡ table.shared.key.shape.locks) },
     ghost ruled: { policy ≡ table.shared.key.shape.policy },
+    ghost some_slot: { 0 < slots },
     ghost counted: { (0 < slots + locks) × (slots + locks < 2 ^ 32) × (slots + locks < table.shared.table_id.words + 1) },
     ghost wide: { (table.shared.table_id.words ≡ slots + locks + table.shared.key.shape.words) × (table.shared.table_id.words < 2 ^ 32) },
 }
@@ -88,9 +89,10 @@ impl<C: Cargo> Hall<C> {
         self.policy
     }
 
-    /// How many slots there are.
+    /// How many slots there are: 1 at least.
     pub fn slots(&self) -> u64
         ensures value { result ≡ (shape_of self.now).slots }
+        ensures some { 0 < result }
         ensures low { result < 2 ^ 32 }
     {
         self.slots

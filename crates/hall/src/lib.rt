@@ -57,7 +57,7 @@ pub mod view;
 
 pub use cargo::{Cargo, CargoRule};
 pub use closing::Closed;
-pub use guards::{Announced, ExclusiveGuard, SharedGuard, TryFault, UpgradeGuard};
+pub use guards::{Announced, ExclusiveGuard, Form, SharedGuard, TryFault, UpgradeGuard, Why};
 pub use hall::{Hall, Pass};
 pub use lock_model::{Mode, Policy};
 pub use making::NoMemory;

@@ -1,6 +1,7 @@
 //! How a hall is made.
 ghost use Rattle.std.specs.Prelude.{◌≡◌, ◌+◌, ◌<◌, ◌≤◌, ◌^◌, IfOk};
 ghost use Rattle.hall.specs.Rule.{first_view};
+ghost use Rattle.hall.specs.Slotting.{HasNonePending};
 
 use crate::cargo::Cargo;
 use crate::hall::{Hall, Pass};
@@ -33,7 +34,7 @@ impl<C: Cargo> Hall<C> {
         requires seats { (0 < seats) × (seats ≤ 2 ^ 20) }
         requires words { slots + locks + C.word_count cargo < 2 ^ 32 }
         requires admits { C.admits cargo quota }
-        ensures { IfOk result (λ t. IsPassOf t.0 t.1 × (cargo_of t.0 ≡ cargo) × (shape_of t.0 ≡ record { locks = locks; slots = slots; seats = seats; policy = policy; words = C.word_count cargo }) × (view t.1 ≡ first_view C.CargoRule record { shape = record { locks = locks; slots = slots; seats = seats; policy = policy; words = C.word_count cargo }; quota = quota; cargo = cargo })) }
+        ensures { IfOk result (λ t. IsPassOf t.0 t.1 × (cargo_of t.0 ≡ cargo) × (shape_of t.0 ≡ record { locks = locks; slots = slots; seats = seats; policy = policy; words = C.word_count cargo }) × (view t.1 ≡ first_view C.CargoRule record { shape = record { locks = locks; slots = slots; seats = seats; policy = policy; words = C.word_count cargo }; quota = quota; cargo = cargo }) × HasNonePending (view t.1)) }
     {
         let extra = cargo.words();
         let count = (slots + locks + extra) as usize;

@@ -1,6 +1,7 @@
 //! How passes are divided and joined.
 ghost use Rattle.std.specs.Prelude.{◌≡◌, ◌+◌, ◌-◌, ◌<◌, ◌≤◌, ℕ};
 ghost use Rattle.hall.specs.declared.view.Standing.TheVariants.{Away};
+ghost use Rattle.hall.specs.Slotting.{HasNonePending};
 ghost use Rattle.hall.specs.Views.{standing, split_left, split_right, joined_view};
 
 use crate::cargo::Cargo;
@@ -55,6 +56,7 @@ impl<C: Cargo> Hall<C> {
         requires quota { quota ≤ (view pass.old).quota }
         ensures pass { IsPassOf self.now pass.new × (view pass.new ≡ split_left seats quota (C.kept (view pass.old).part) (view pass.old)) }
         ensures new { IsPassOf self.now result × (view result ≡ split_right seats quota (C.split_off (view pass.old).part) (view pass.old)) }
+        ensures clear { HasNonePending (view result) × (HasNonePending (view pass.old) → HasNonePending (view pass.new)) }
         ensures moment { SplitMoment C.CargoRule (view pass.old) (view pass.new) (view result) }
         ensures keeps { SplitKeeps C.CargoRule (plan_of self.now) pass.old.seat.id (view pass.old) (view pass.new) (view result) }
     {
@@ -73,6 +75,7 @@ impl<C: Cargo> Hall<C> {
         requires away { (lock : ℕ) → standing (view other) lock ≡ Away }
         requires rested { C.rested (view other).part }
         ensures pass { IsPassOf self.now pass.new × (view pass.new ≡ joined_view (C.joined (view pass.old).part (view other).part) (view pass.old) (view other)) }
+        ensures clear { HasNonePending (view pass.old) → HasNonePending (view pass.new) }
         ensures keeps { JoinKeeps C.CargoRule (plan_of self.now) pass.old.seat.id other.seat.id (view pass.old) (view other) (view pass.new) }
         ensures met { Met C.CargoRule (view pass.new) }
     {

@@ -63,7 +63,6 @@ pub enum Withdrawn {
 pub fn place<C: Cargo>(hall: &Hall<C>, pass: &mut Pass<C>, lock: u64) -> Placed
     requires pass { IsPassOf hall.now pass.old }
     requires lock { lock < (shape_of hall.now).locks }
-    requires slots { 0 < (shape_of hall.now).slots }
     requires away { standing (view pass.old) lock ≡ Away }
     requires clear { HasNonePending (view pass.old) }
     ensures pass { IsPassOf hall.now pass.new }

@@ -48,7 +48,7 @@ fn let_defer<A: Abort>(rt: &A, hall: &Hall<NoCargo>, pass: &mut Pass<NoCargo>)
 }
 
 fn places<A: Abort>(rt: &A, hall: &Hall<NoCargo>, pass: &mut Pass<NoCargo>, slot: u64)
-    requires pass { IsPassOf hall.now pass.old × (0 < (shape_of hall.now).locks) × (0 < (shape_of hall.now).slots) }
+    requires pass { IsPassOf hall.now pass.old × (0 < (shape_of hall.now).locks) }
     requires away { standing (view pass.old) 0 ≡ Away }
     requires clear { HasNonePending (view pass.old) }
     ensures pass { IsPassOf hall.now pass.new }
@@ -70,7 +70,7 @@ fn finds_both_taken<A: Abort>(
     pass: &mut Pass<NoCargo>,
     seen: [u64; 2],
 )
-    requires pass { IsPassOf hall.now pass.old × (0 < (shape_of hall.now).locks) × (0 < (shape_of hall.now).slots) }
+    requires pass { IsPassOf hall.now pass.old × (0 < (shape_of hall.now).locks) }
     requires away { standing (view pass.old) 0 ≡ Away }
     requires clear { HasNonePending (view pass.old) }
     ensures pass { IsPassOf hall.now pass.new }

@@ -1,6 +1,9 @@
 pub mod Acquiring
 pub mod Beside
+pub mod Entering
 pub mod Refused
+pub mod TokenLaws
+pub mod Tokens
 pub mod TrailLaws
 pub mod Tries
 pub mod TriesRefused

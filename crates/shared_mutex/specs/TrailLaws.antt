@@ -1,7 +1,8 @@
 -- The footprints of tries and calls: a reader leaves weak ones at its lock and no others, and a writer any at its lock.
-use Rattle.std.specs.Prelude.{◌≡◌, ℕ, ◌||◌, Bool, false, true, List, None}
+use Rattle.std.specs.Prelude.{◌≡◌, ℕ, ◌<◌, ◌||◌, Bool, false, true, List, length, None}
 use Rattle.std.proofs.Common.{refl, ap, ◌∙◌, ⊎_elim}
 use Rattle.hall.specs.declared.cargo.CargoRule.{Ghosts}
+use Rattle.hall.specs.declared.guards.Form.{Form}
 use Rattle.hall.specs.declared.guards.TryFault.{TryFault}
 use Rattle.hall.specs.declared.guards.TryFault.TheVariants.{Busy, Raced}
 use Rattle.hall.specs.declared.view.Kind.{Kind}
@@ -9,12 +10,14 @@ use Rattle.hall.specs.declared.view.Kind.TheVariants as kinds
 use Rattle.hall.specs.declared.view.Standing.{Standing}
 use Rattle.hall.specs.declared.view.Standing.TheVariants.{Away, Inline, Exclusive, Announcing}
 use Rattle.hall.specs.declared.view.View.{View}
+use Rattle.hall.specs.Fitting.{stands_by}
 use Rattle.hall.specs.Plays.{GivesBack, Holding, Releases, Retracts, lowered_part}
 use Rattle.hall.specs.Treading.{IsAt, IsBetween, IsWeakAt, Treads, treads_as, treads_step, treads_then, weak_between}
 use Rattle.hall.specs.Views.{after_look, after_step, is_strong, standing}
 use Rattle.apply_deferred.specs.SweepLaws.{sweep_goes}
 use Rattle.apply_deferred.specs.Sweeping.{Sweeps}
-use Rattle.shared_mutex.specs.Acquiring.{AnnouncesWriter, FoundReaders, RefusesAnnouncing, RefusesExclusive, RefusesShared, TakesExclusive, TakesShared}
+use Rattle.shared_mutex.specs.Acquiring.{AnnouncesWriter, FoundReaders, LeavesShared, RefusesAnnouncing, RefusesExclusive, RefusesShared, TakesExclusive, TakesShared}
+use Rattle.shared_mutex.specs.Entering.{enters_last, enters_weakly, leaves_lock}
 use Rattle.shared_mutex.specs.Tries.{AnnouncesAtLast, EntersAtLast, GivesUp, HoldsAtLast, OnlyLooked, WritesAtLast}
 use Rattle.shared_mutex.specs.TryLaws.{looked_once, reader_looked, stands_still, writer_looked}
 
@@ -35,18 +38,16 @@ module _ {P : Type 0} (v w : View P) (lock : ℕ) where
 module _ {C P : Type 0} (g : Ghosts C P) (v w : View P) (lock : ℕ) where
   -- readers
   pub takes_shared_treads : standing v lock ≡ Away → TakesShared g v lock w → Treads (IsWeakAt lock) v w
-  takes_shared_treads away t =
-      let u = after_look v kinds.Load lock t.0 in
-      let l = looked_once v u kinds.Load lock t.0 refl refl in
-      let stays : standing u lock ≡ Away = stands_still v u lock l ∙ away in
-      treads_then (IsWeakAt lock) v u w (looked_weak v u lock away l)
-      (step_weak u w lock kinds.Enter t.0 true Inline t.2.0.1 (ap (λ x. is_strong x || false) stays) t.2.0.3)
+  takes_shared_treads away t = enters_weakly g v w lock away (enters_last g v w lock away t)
 
   pub refuses_shared_treads : (fault : TryFault) → standing v lock ≡ Away → RefusesShared g v lock w fault → Treads (IsWeakAt lock) v w
   refuses_shared_treads fault away r = looked_weak v w lock away (reader_looked g v lock w fault r)
 
   pub gives_back_treads : (found : ℕ) → standing v lock ≡ Inline → GivesBack g v lock found w → Treads (IsWeakAt lock) v w
   gives_back_treads found held b = step_weak v w lock kinds.Lower found true Away (lowered_part g (standing v lock) lock v.part) (ap (λ x. is_strong x || false) held) b.0
+
+  pub leaves_shared_treads : (form : Form) → lock < length v.standings → standing v lock ≡ stands_by form → LeavesShared g v lock form w → Treads (IsWeakAt lock) v w
+  leaves_shared_treads form near held r = (leaves_lock g v w lock near form held r).trail
 
   -- writers
   pub announces_treads : AnnouncesWriter g v lock w → Treads (IsAt lock) v w

@@ -1,5 +1,5 @@
 -- Tries that were made one after the other, and what those that were refused leave to their pass.
-use Rattle.std.specs.Prelude.{◌≡◌, ℕ, Bool, true, false, List, [], ◌∷◌, ◌++◌, All, None}
+use Rattle.std.specs.Prelude.{◌≡◌, ◌⊎◌, ℕ, Bool, true, false, List, [], ◌∷◌, ◌++◌, All, None}
 use Rattle.hall.specs.declared.cargo.CargoRule.{Ghosts}
 use Rattle.hall.specs.declared.guards.TryFault.{TryFault}
 use Rattle.hall.specs.declared.guards.TryFault.TheVariants.{Busy, Raced}
@@ -10,9 +10,10 @@ use Rattle.hall.specs.declared.view.View.{View}
 use Rattle.hall.specs.Plays.{HoldMisses, Holding, Retracts}
 use Rattle.hall.specs.Reasons.{WasNotAlone}
 use Rattle.hall.specs.Treading.{Treads, IsBetween}
-use Rattle.hall.specs.Views.{mode_of, place_of, standing}
+use Rattle.hall.specs.Views.{mode_of, standing}
 use Rattle.apply_deferred.specs.Sweeping.{Sweeps}
 use Rattle.shared_mutex.specs.Acquiring.{TakesShared, RefusesShared, AnnouncesWriter, RefusesAnnouncing}
+use Rattle.shared_mutex.specs.Tokens.{is_token_step}
 
 -- tries that were all refused took v to w, each as `refuses` says; the newest fault stands first
 abbrev pub AllRefused : {V F : Type 0} → (V → V → F → Type 0) → V → List F → V → Type 0
@@ -26,9 +27,9 @@ is_retract kinds.UpRetract = true
 is_retract kind = false
 
 module _ {P : Type 0} where
-  -- a load of a lock's word or an exchange on it that failed, under the pass's number, from the standing that it has there
+  -- a look at a lock: a load, or an exchange that failed, on its word or for it on a slot, under the pass's number and in the mode that it holds there. A reader's token that is taken back again is as good as a look, so each step of it is one too
   abbrev pub IsLook : View P → ℕ → StepEntry → Type 0
-  IsLook v lock e = (e.number ≡ v.number) × (e.place ≡ place_of v lock) × (e.before ≡ standing v lock) × (e.won ≡ false) × (is_retract e.kind ≡ false) × (e.lock ≡ lock)
+  IsLook v lock e = (e.number ≡ v.number) × (e.lock ≡ lock) × (mode_of e.before ≡ mode_of (standing v lock)) × (is_retract e.kind ≡ false) × ((e.won ≡ false) ⊎ (is_token_step e.kind ≡ true))
 
   -- a step for a lock, on its word or on a slot, under the pass's number, by a pass that holds no mode there
   abbrev pub IsTry : View P → ℕ → StepEntry → Type 0
@@ -42,7 +43,7 @@ module _ {P : Type 0} where
   abbrev pub AddsSteps : (StepEntry → Type 0) → View P → View P → Type 0
   AddsSteps is v w = (added : List StepEntry) × (w.steps ≡ added ++ v.steps) × All is added
 
-  -- looks at a lock's word add their steps and footprints, and change nothing else of the pass
+  -- looks at a lock, and tokens that were taken back, add their steps and footprints, and change nothing else of the pass
   pub record OnlyLooked (v : View P) (lock : ℕ) (w : View P) : Type 0 where
     pub shape : w.shape ≡ v.shape
     pub number : w.number ≡ v.number
@@ -55,7 +56,7 @@ module _ {P : Type 0} where
     pub trail : Treads (IsBetween lock (standing v lock) (standing v lock)) v w
 
 module _ {P : Type 0} (misses : View P → View P → TryFault → Type 0) (wins : View P → View P → Type 0) where
-  -- after tries that were refused with these faults, and that only looked, a try won
+  -- after tries that were refused with these faults, and that left the pass as it was, a try won
   abbrev pub WinsAtLast : View P → ℕ → List TryFault → View P → Type 0
   WinsAtLast v lock faults w = (u : View P) × AllRefused misses v faults u × OnlyLooked v lock u × wins u w
 

@@ -1,6 +1,6 @@
--- Laws of tries that were refused: they only looked, and tries that follow them go on from there.
-use Rattle.std.specs.Prelude.{◌≡◌, ℕ, ◌+◌, false, List, [], ◌∷◌, ◌++◌, length, slice_index_or}
-use Rattle.std.proofs.Common.{refl, sym, ap, ◌∙◌, subst, append_assoc, arith}
+-- Laws of tries that were refused: they only looked, or took back what they had placed, and tries that follow them go on from there.
+use Rattle.std.specs.Prelude.{◌≡◌, ℕ, ◌+◌, Bool, true, false, List, [], ◌∷◌, ◌++◌, length, slice_index, slice_index_or, slice_set}
+use Rattle.std.proofs.Common.{refl, sym, ap, ◌∙◌, subst, ⊎_elim, inl, append_assoc, arith}
 use Rattle.std.proofs.lemmas.List.{set-get_or}
 use Rattle.std.proofs.lemmas.List.Elements.{All-nil, All-cons, All-append}
 use Rattle.hall.specs.declared.cargo.CargoRule.{Ghosts}
@@ -8,15 +8,24 @@ use Rattle.hall.specs.declared.guards.TryFault.{TryFault}
 use Rattle.hall.specs.declared.guards.TryFault.TheVariants.{Busy, Raced}
 use Rattle.hall.specs.declared.view.Kind.{Kind}
 use Rattle.hall.specs.declared.view.Kind.TheVariants as kinds
-use Rattle.hall.specs.declared.view.Shape.{Shape}
 use Rattle.hall.specs.declared.view.Standing.{Standing}
 use Rattle.hall.specs.declared.view.Standing.TheVariants.{Away}
 use Rattle.hall.specs.declared.view.StepEntry.{StepEntry}
 use Rattle.hall.specs.declared.view.View.{View}
-use Rattle.hall.specs.Treading.{IsBetween, treads_as, treads_none, treads_step, treads_then}
-use Rattle.hall.specs.Views.{after_look, entry_of, standing}
+use Rattle.hall.specs.Treading.{IsBetween, IsWeakAt, treads_as, treads_none, treads_step_at, treads_then}
+use Rattle.hall.specs.Views.{after_look, after_step_at, entry_at, mode_of, place_of, standing}
+use Rattle.reader_slots.specs.Deferring.{first_slot, second_slot}
 use Rattle.shared_mutex.specs.Acquiring.{ElsewhereSame, RefusesShared, RefusesAnnouncing}
+use Rattle.shared_mutex.specs.TokenLaws.{turned_back}
+use Rattle.shared_mutex.specs.Tokens.{IsReaderStep, OnlyTried, is_reader_step}
 use Rattle.shared_mutex.specs.Tries.{AllRefused, AddsSteps, IsLook, MeetsReaders, OnlyLooked, ReadersMet, ReadersRefused, WinsAtLast, WritersRefused, is_retract}
+
+-- no step of a reader that is outside takes an announcement back
+pub reader_patient : (k : Kind) → is_reader_step k ≡ true → is_retract k ≡ false
+reader_patient k e = elim k as (λ z. is_reader_step z ≡ true → is_retract z ≡ false) [ kinds.Retract ↦ λ h. absurd (cc) | kinds.UpRetract ↦ λ h. absurd (cc) | _ ↦ λ h. refl ] e
+
+no_both : (b : Bool) → b ≡ false → b ≡ true → ⊥
+no_both b f t = absurd (cc)
 
 module _ {P : Type 0} where
   pub adds_none : (is : StepEntry → Type 0) (v w : View P) → w ≡ v → AddsSteps is v w
@@ -42,9 +51,9 @@ module _ {P : Type 0} where
     trail = treads_none (IsBetween lock (standing v lock) (standing v lock)) v w (ap (λ (z : View P). z.number) same) (ap (λ (z : View P). z.trail) same);
   }
 
-  -- one look
-  pub looked_once : (v w : View P) (kind : Kind) (lock word : ℕ) → is_retract kind ≡ false → w ≡ after_look v kind lock word → OnlyLooked v lock w
-  looked_once v w kind lock word patient is = record {
+  -- one look, on the word at a place of the table
+  pub looked_once_at : (v w : View P) (kind : Kind) (lock place word : ℕ) → is_retract kind ≡ false → w ≡ after_step_at v kind lock place word false (standing v lock) v.part → OnlyLooked v lock w
+  looked_once_at v w kind lock place word patient is = record {
     shape = ap (λ (z : View P). z.shape) is;
     number = ap (λ (z : View P). z.number) is;
     span = ap (λ (z : View P). z.span) is;
@@ -52,14 +61,35 @@ module _ {P : Type 0} where
     quota = ap (λ (z : View P). z.quota) is;
     standings = ap (λ (z : View P). z.standings) is ∙ set-get_or v.standings lock Away;
     part = ap (λ (z : View P). z.part) is;
-    steps = (entry_of v kind lock word false ∷ [], ap (λ (z : View P). z.steps) is, All-cons (IsLook v lock) (entry_of v kind lock word false) [] (refl, refl, refl, refl, patient, refl) (All-nil (IsLook v lock)));
-    trail = treads_step v w kind lock word false (standing v lock) v.part is;
+    steps = (
+      entry_at v kind lock place word false ∷ [],
+      ap (λ (z : View P). z.steps) is,
+      All-cons (IsLook v lock) (entry_at v kind lock place word false) [] (refl, refl, refl, patient, inl refl) (All-nil (IsLook v lock)),
+    );
+    trail = treads_step_at v w kind lock place word false (standing v lock) v.part is;
+  }
+
+  -- and on the lock's own
+  pub looked_once : (v w : View P) (kind : Kind) (lock word : ℕ) → is_retract kind ≡ false → w ≡ after_look v kind lock word → OnlyLooked v lock w
+  looked_once v w kind lock word patient is = looked_once_at v w kind lock (place_of v lock) word patient is
+
+  -- a token that was taken back
+  pub tried_looked : (v w : View P) (lock : ℕ) → standing v lock ≡ Away → OnlyTried v lock Away w → OnlyLooked v lock w
+  tried_looked v w lock away t = record {
+    shape = t.shape;
+    number = t.number;
+    span = t.span;
+    taken = t.taken;
+    quota = t.quota;
+    standings = t.standings ∙ ap (λ (x : Standing). slice_set v.standings lock x) (sym away) ∙ set-get_or v.standings lock Away;
+    part = t.part;
+    steps = adds_as (IsReaderStep v lock) (IsLook v lock) v w (λ e p. (p.0, p.1, p.2 ∙ sym (ap mode_of away), reader_patient e.kind p.3, p.4)) (t.added, t.steps, t.each);
+    trail = treads_as (IsWeakAt lock) (IsBetween lock (standing v lock) (standing v lock)) v w (λ m p. (p.0, λ strong. absurd (no_both m.strong p.1 strong))) t.trail;
   }
 
   -- looks after looks
   pub looked_then : (v u w : View P) (lock : ℕ) → OnlyLooked v lock u → OnlyLooked u lock w → OnlyLooked v lock w
   looked_then v u w lock a b =
-      let place : u.shape.slots + lock ≡ v.shape.slots + lock = ap (λ (s : Shape). s.slots + lock) a.shape in
       let stands : standing u lock ≡ standing v lock = ap (λ (l : List Standing). slice_index_or l lock Away) a.standings in record {
         shape = b.shape ∙ a.shape;
         number = b.number ∙ a.number;
@@ -68,7 +98,7 @@ module _ {P : Type 0} where
         quota = b.quota ∙ a.quota;
         standings = b.standings ∙ a.standings;
         part = b.part ∙ a.part;
-        steps = adds_then (IsLook v lock) v u w a.steps (adds_as (IsLook u lock) (IsLook v lock) u w (λ e p. (p.0 ∙ a.number, p.1 ∙ place, p.2 ∙ stands, p.3, p.4, p.5)) b.steps);
+        steps = adds_then (IsLook v lock) v u w a.steps (adds_as (IsLook u lock) (IsLook v lock) u w (λ e p. (p.0 ∙ a.number, p.1, p.2 ∙ ap mode_of stands, p.3, p.4)) b.steps);
         trail = treads_then (IsBetween lock (standing v lock) (standing v lock)) v u w a.trail
             (treads_as (IsBetween lock (standing u lock) (standing u lock)) (IsBetween lock (standing v lock) (standing v lock)) u w (λ m p. subst (λ x. IsBetween lock x x m) stands p) b.trail);
       }
@@ -105,8 +135,19 @@ module _ {P : Type 0} (misses : View P → View P → TryFault → Type 0) (lock
 
 module _ {C P : Type 0} (g : Ghosts C P) where
   pub reader_looked : (v : View P) (lock : ℕ) (w : View P) (f : TryFault) → RefusesShared g v lock w f → OnlyLooked v lock w
-  reader_looked v lock w (Busy word) r = looked_once v w kinds.Load lock word refl r.1
-  reader_looked v lock w (Raced expected found) r = looked_then v (after_look v kinds.Load lock expected) w lock (looked_once v (after_look v kinds.Load lock expected) kinds.Load lock expected refl refl) (looked_once (after_look v kinds.Load lock expected) w kinds.Enter lock found refl r.1)
+  reader_looked v lock w (Busy word) r = ⊎_elim (λ a. looked_once v w kinds.Load lock word refl a) (λ b. tried_looked v w lock b.1.1 (turned_back g v lock b.1.1 w b.0 word b.1)) r.1
+  reader_looked v lock w (Raced expected found) r =
+      let l : View P = after_look v kinds.Load lock expected in let first : OnlyLooked v lock l = looked_once v l kinds.Load lock expected refl refl in
+      ⊎_elim
+      (λ a. looked_then v l w lock first (looked_once l w kinds.Enter lock found refl a.1))
+      (λ bc. ⊎_elim
+      (λ b. let u : View P = b.1.1 in let p = b.1.2 in let z : View P = p.0 in
+      looked_then v l w lock first
+      (looked_then l z w lock (looked_once_at l z kinds.PlaceSlot lock (first_slot l.shape.slots l.number) (slice_index b.1.0 0) refl p.1.1.0)
+      (looked_then z u w lock (looked_once_at z u kinds.PlaceSlot lock (second_slot l.shape.slots l.number) (slice_index b.1.0 1) refl p.3.0) (looked_once u w kinds.Enter lock found refl b.1.3))))
+      (λ c. tried_looked v w lock c.1.1 (turned_back g v lock c.1.1 w expected found c.1))
+      bc)
+      r.2
 
   pub writer_looked : (v : View P) (lock : ℕ) (w : View P) (f : TryFault) → RefusesAnnouncing g v lock w f → OnlyLooked v lock w
   writer_looked v lock w (Busy word) r = looked_once v w kinds.Load lock word refl r.1

@@ -4,6 +4,7 @@ ghost use Rattle.hall.specs.Fitting.{AnnouncedFits, ExclusiveFits};
 ghost use Rattle.hall.specs.Passes.{view, IsPassOf, shape_of};
 ghost use Rattle.hall.specs.Plays.{HoldMisses, Retracts, Releases};
 ghost use Rattle.hall.specs.Reasons.{WasNotAlone};
+ghost use Rattle.hall.specs.Slotting.{HasNonePending};
 ghost use Rattle.hall.specs.Views.{standing};
 ghost use Rattle.hall.specs.declared.view.Standing.TheVariants.{Away, Exclusive, Announcing};
 ghost use Rattle.shared_mutex.specs.Acquiring.{ElsewhereSame, MadeAtMost, AnnouncesWriter, RefusesAnnouncing, Finishes, TakesExclusive, RefusesExclusive};
@@ -28,6 +29,7 @@ pub fn announce<C: Cargo>(
     ensures step { MatchResult result (λ announced. (announced.lock ≡ lock) × (announced.swept ≡ false) × (announced.from_upgrade ≡ false) × AnnouncesWriter C.CargoRule (view pass.old) lock (view pass.new)) (λ fault. RefusesAnnouncing C.CargoRule (view pass.old) lock (view pass.new) fault) }
     ensures stands { MatchResult result (λ _. standing (view pass.new) lock ≡ Announcing 0 0 false) (λ _. standing (view pass.new) lock ≡ Away) }
     ensures fits { IfOk result (λ announced. AnnouncedFits (shape_of hall.now) (view pass.new) announced) }
+    ensures clear { HasNonePending (view pass.old) → HasNonePending (view pass.new) }
     ensures elsewhere { ElsewhereSame (view pass.old) (view pass.new) lock }
     ensures steps { MadeAtMost (view pass.old) (view pass.new) 2 }
 {
@@ -84,6 +86,7 @@ pub fn try_finish<C: Cargo>(
     ensures step { MatchResult result (λ guard. (guard.lock ≡ announced.lock) × Finishes C.CargoRule announced.from_upgrade (view pass.old) announced.lock (view pass.new)) (λ refused. (refused.0 ≡ announced) × HoldMisses C.CargoRule (view pass.old) announced.lock refused.1 (view pass.new) × WasNotAlone C.CargoRule (view pass.new) announced.lock) }
     ensures stands { MatchResult result (λ _. standing (view pass.new) announced.lock ≡ Exclusive) (λ _. standing (view pass.new) announced.lock ≡ standing (view pass.old) announced.lock) }
     ensures fits { MatchResult result (λ guard. ExclusiveFits (shape_of hall.now) (view pass.new) guard) (λ refused. AnnouncedFits (shape_of hall.now) (view pass.new) refused.0) }
+    ensures clear { HasNonePending (view pass.old) → HasNonePending (view pass.new) }
     ensures elsewhere { ElsewhereSame (view pass.old) (view pass.new) announced.lock }
     ensures steps { MadeAtMost (view pass.old) (view pass.new) 1 }
 {
@@ -108,6 +111,7 @@ pub fn retract<C: Cargo>(hall: &Hall<C>, pass: &mut Pass<C>, announced: Announce
     ensures pass { IsPassOf hall.now pass.new }
     ensures step { (found : _) × Retracts C.CargoRule (view pass.old) announced.lock found (view pass.new) }
     ensures away { standing (view pass.new) announced.lock ≡ Away }
+    ensures clear { HasNonePending (view pass.old) → HasNonePending (view pass.new) }
     ensures elsewhere { ElsewhereSame (view pass.old) (view pass.new) announced.lock }
     ensures steps { MadeAtMost (view pass.old) (view pass.new) 1 }
 {
@@ -134,6 +138,7 @@ pub fn try_lock<C: Cargo>(
     ensures step { MatchResult result (λ guard. (guard.lock ≡ lock) × TakesExclusive C.CargoRule (view pass.old) lock (view pass.new)) (λ fault. RefusesExclusive C.CargoRule (view pass.old) lock (view pass.new) fault) }
     ensures stands { MatchResult result (λ _. standing (view pass.new) lock ≡ Exclusive) (λ _. standing (view pass.new) lock ≡ Away) }
     ensures fits { IfOk result (λ guard. ExclusiveFits (shape_of hall.now) (view pass.new) guard) }
+    ensures clear { HasNonePending (view pass.old) → HasNonePending (view pass.new) }
     ensures elsewhere { ElsewhereSame (view pass.old) (view pass.new) lock }
     ensures steps { MadeAtMost (view pass.old) (view pass.new) (2 * (shape_of hall.now).slots + 5) }
 {
@@ -158,6 +163,7 @@ pub fn unlock<C: Cargo>(hall: &Hall<C>, pass: &mut Pass<C>, guard: ExclusiveGuar
     ensures pass { IsPassOf hall.now pass.new }
     ensures step { Releases C.CargoRule (view pass.old) guard.lock 8 (view pass.new) }
     ensures away { standing (view pass.new) guard.lock ≡ Away }
+    ensures clear { HasNonePending (view pass.old) → HasNonePending (view pass.new) }
     ensures elsewhere { ElsewhereSame (view pass.old) (view pass.new) guard.lock }
     ensures steps { MadeAtMost (view pass.old) (view pass.new) 1 }
 {

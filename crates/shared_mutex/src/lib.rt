@@ -10,6 +10,8 @@
 
 #[cfg(test)]
 mod beside_model;
+#[cfg(test)]
+mod deferring;
 mod exclusive;
 #[cfg(test)]
 mod reader_in_a_slot;

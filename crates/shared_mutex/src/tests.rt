@@ -1,9 +1,13 @@
 //! What no clause says: that the words are those that are meant, step by step, and that tries succeed where nobody is
 //! in the way.
 ghost use Rattle.std.specs.Prelude.{◌≡◌, ◌<◌, Result, Ok, IfOk};
+ghost use Rattle.std.specs.Thread.{IsSync};
+ghost use Rattle.hall.specs.Fitting.{SharedFits};
 ghost use Rattle.hall.specs.Passes.{view, IsPassOf, shape_of};
+ghost use Rattle.hall.specs.Slotting.{HasNonePending};
 ghost use Rattle.hall.specs.Views.{standing};
-ghost use Rattle.hall.specs.declared.view.Standing.TheVariants.{Away, Inline, Exclusive};
+ghost use Rattle.hall.specs.declared.view.Standing.TheVariants.{Away, Exclusive};
+ghost use Rattle.shared_mutex.specs.Beside.{IsIdle};
 
 use crate::{announce, retract, try_finish, try_lock, try_lock_shared, unlock, unlock_shared};
 use apply_deferred::scan;
@@ -23,8 +27,10 @@ pub(crate) fn shared<A: Abort>(
 ) -> SharedGuard
     requires pass { IsPassOf hall.now pass.old × (0 < (shape_of hall.now).locks) }
     requires away { standing (view pass.old) 0 ≡ Away }
+    requires clear { HasNonePending (view pass.old) }
     ensures pass { IsPassOf hall.now pass.new }
-    ensures inline { (result.lock ≡ 0) × (standing (view pass.new) 0 ≡ Inline) }
+    ensures fits { (result.lock ≡ 0) × SharedFits (shape_of hall.now) (view pass.new) result }
+    ensures clear { HasNonePending (view pass.new) }
 {
     match try_lock_shared(hall, pass, 0) {
         Ok(guard) => guard,
@@ -35,8 +41,10 @@ pub(crate) fn shared<A: Abort>(
 fn exclusive<A: Abort>(rt: &A, hall: &Hall<NoCargo>, pass: &mut Pass<NoCargo>) -> ExclusiveGuard
     requires pass { IsPassOf hall.now pass.old × (0 < (shape_of hall.now).locks) }
     requires away { standing (view pass.old) 0 ≡ Away }
+    requires clear { HasNonePending (view pass.old) }
     ensures pass { IsPassOf hall.now pass.new }
     ensures held { (result.lock ≡ 0) × (standing (view pass.new) 0 ≡ Exclusive) }
+    ensures clear { HasNonePending (view pass.new) }
 {
     match try_lock(hall, pass, 0) {
         Ok(guard) => guard,
@@ -48,8 +56,10 @@ fn exclusive<A: Abort>(rt: &A, hall: &Hall<NoCargo>, pass: &mut Pass<NoCargo>) -
 fn no_shared<A: Abort>(rt: &A, hall: &Hall<NoCargo>, pass: &mut Pass<NoCargo>, busy: u64)
     requires pass { IsPassOf hall.now pass.old × (0 < (shape_of hall.now).locks) }
     requires away { standing (view pass.old) 0 ≡ Away }
+    requires clear { HasNonePending (view pass.old) }
     ensures pass { IsPassOf hall.now pass.new }
     ensures away { standing (view pass.new) 0 ≡ Away }
+    ensures clear { HasNonePending (view pass.new) }
 {
     match try_lock_shared(hall, pass, 0) {
         Ok(guard) => {
@@ -63,8 +73,10 @@ fn no_shared<A: Abort>(rt: &A, hall: &Hall<NoCargo>, pass: &mut Pass<NoCargo>, b
 fn no_exclusive<A: Abort>(rt: &A, hall: &Hall<NoCargo>, pass: &mut Pass<NoCargo>, busy: u64)
     requires pass { IsPassOf hall.now pass.old × (0 < (shape_of hall.now).locks) }
     requires away { standing (view pass.old) 0 ≡ Away }
+    requires clear { HasNonePending (view pass.old) }
     ensures pass { IsPassOf hall.now pass.new }
     ensures away { standing (view pass.new) 0 ≡ Away }
+    ensures clear { HasNonePending (view pass.new) }
 {
     match try_lock(hall, pass, 0) {
         Ok(guard) => {
@@ -79,6 +91,7 @@ pub(crate) fn word_is<A: Abort>(rt: &A, hall: &Hall<NoCargo>, pass: &mut Pass<No
     requires pass { IsPassOf hall.now pass.old × (0 < (shape_of hall.now).locks) }
     ensures pass { IsPassOf hall.now pass.new }
     ensures same { standing (view pass.new) 0 ≡ standing (view pass.old) 0 }
+    ensures clear { HasNonePending (view pass.old) → HasNonePending (view pass.new) }
 {
     assert_eq!(rt; hall.load(pass, 0), Word(word));
 }
@@ -172,8 +185,10 @@ fn reader_beside<A: Abort>(
 )
     requires pass { IsPassOf hall.now pass.old × (0 < (shape_of hall.now).locks) }
     requires away { standing (view pass.old) 0 ≡ Away }
+    requires clear { HasNonePending (view pass.old) }
     ensures pass { IsPassOf hall.now pass.new }
     ensures away { standing (view pass.new) 0 ≡ Away }
+    ensures clear { HasNonePending (view pass.new) }
 {
     let seat = pass.number();
     match try_lock_shared(hall, pass, 0) {
@@ -195,14 +210,16 @@ fn writer_beside<A: Abort>(
 )
     requires pass { IsPassOf hall.now pass.old × (0 < (shape_of hall.now).locks) }
     requires away { standing (view pass.old) 0 ≡ Away }
+    requires clear { HasNonePending (view pass.old) }
     ensures pass { IsPassOf hall.now pass.new }
     ensures away { standing (view pass.new) 0 ≡ Away }
+    ensures clear { HasNonePending (view pass.new) }
 {
     let seat = pass.number();
     match announce(hall, pass, 0) {
         Ok(mut announced) => {
             agrees(rt, model, seat, Act::Announce, true);
-            assert_eq!(rt; scan(hall, pass, &mut announced), 0);
+            scan(hall, pass, &mut announced);
             match try_finish(hall, pass, announced) {
                 Ok(guard) => {
                     agrees(rt, model, seat, Act::TakeExclusive, true);
@@ -228,10 +245,10 @@ fn beside_model<A: Abort>(
     other: &mut Pass<NoCargo>,
     model: &mut ModelLock,
 )
-    requires one { IsPassOf hall.now one.old × (0 < (shape_of hall.now).locks) × (standing (view one.old) 0 ≡ Away) }
-    requires other { IsPassOf hall.now other.old × (standing (view other.old) 0 ≡ Away) }
-    ensures one { IsPassOf hall.now one.new × (standing (view one.new) 0 ≡ Away) }
-    ensures other { IsPassOf hall.now other.new × (standing (view other.new) 0 ≡ Away) }
+    requires one { IsPassOf hall.now one.old × (0 < (shape_of hall.now).locks) × (standing (view one.old) 0 ≡ Away) × HasNonePending (view one.old) }
+    requires other { IsPassOf hall.now other.old × (standing (view other.old) 0 ≡ Away) × HasNonePending (view other.old) }
+    ensures one { IsPassOf hall.now one.new × (standing (view one.new) 0 ≡ Away) × HasNonePending (view one.new) }
+    ensures other { IsPassOf hall.now other.new × (standing (view other.new) 0 ≡ Away) × HasNonePending (view other.new) }
 {
     let seat = one.number();
     reader_beside(rt, hall, other, model);
@@ -274,21 +291,23 @@ fn as_the_model_does(rt: HostRuntime) {
     }
 }
 
-// Tries again and again for each kind of hold.
-fn hammer(hall: &Hall<NoCargo>, pass: &mut Pass<NoCargo>, times: u32)
-    requires pass { IsPassOf hall.now pass.old × (0 < (shape_of hall.now).locks) }
-    requires away { standing (view pass.old) 0 ≡ Away }
-    ensures pass { IsPassOf hall.now pass.new }
-    ensures away { standing (view pass.new) 0 ≡ Away }
+// Tries again and again for each kind of hold, and answers how many it gained.
+fn hammer(hall: &Hall<NoCargo>, pass: &mut Pass<NoCargo>, times: u32) -> u32
+    requires pass { IsIdle hall.now pass.old × (0 < (shape_of hall.now).locks) }
+    ensures { IsIdle hall.now pass.new }
 {
+    let mut gained = 0u32;
     for _ in 0..times {
         if let Ok(guard) = try_lock_shared(hall, pass, 0) {
             unlock_shared(hall, pass, guard);
+            gained = gained.saturating_add(1);
         }
         if let Ok(guard) = try_lock(hall, pass, 0) {
             unlock(hall, pass, guard);
+            gained = gained.saturating_add(1);
         }
     }
+    gained
 }
 
 fn by_two_threads<R: Threads + Wait + Sync>(
@@ -296,30 +315,35 @@ fn by_two_threads<R: Threads + Wait + Sync>(
     hall: &Hall<NoCargo>,
     mut left: Pass<NoCargo>,
     mut right: Pass<NoCargo>,
-) -> (Pass<NoCargo>, Pass<NoCargo>)
-    requires left { IsPassOf hall.now left × (standing (view left) 0 ≡ Away) }
-    requires right { IsPassOf hall.now right × (standing (view right) 0 ≡ Away) }
+) -> ((Pass<NoCargo>, u32), (Pass<NoCargo>, u32))
+    requires left { IsIdle hall.now left }
+    requires right { IsIdle hall.now right }
     requires lock { 0 < (shape_of hall.now).locks }
-    ensures left { IsPassOf hall.now result.0 × (standing (view result.0) 0 ≡ Away) }
-    ensures right { IsPassOf hall.now result.1 × (standing (view result.1) 0 ≡ Away) }
+    ensures left { IsIdle hall.now result.0.0 }
+    ensures right { IsIdle hall.now result.1.0 }
 {
     thread::join(
         rt,
-        move || -> Pass<NoCargo>
-            requires { IsPassOf hall.now left × (standing (view left) 0 ≡ Away) × (0 < (shape_of hall.now).locks) }
-            ensures { IsPassOf hall.entry.now result × (standing (view result) 0 ≡ Away) }
+        move || -> (Pass<NoCargo>, u32)
+            requires { IsIdle hall.now left × (0 < (shape_of hall.now).locks) }
+            ensures { IsIdle hall.entry.now result.0 }
         {
-            hammer(hall, &mut left, 1000);
-            left
+            let gained = hammer(hall, &mut left, 1000);
+            (left, gained)
         },
-        move || -> Pass<NoCargo>
-            requires { IsPassOf hall.now right × (standing (view right) 0 ≡ Away) × (0 < (shape_of hall.now).locks) }
-            ensures { IsPassOf hall.entry.now result × (standing (view result) 0 ≡ Away) }
+        move || -> (Pass<NoCargo>, u32)
+            requires { IsIdle hall.now right × (0 < (shape_of hall.now).locks) }
+            ensures { IsIdle hall.entry.now result.0 }
         {
-            hammer(hall, &mut right, 1000);
-            right
+            let gained = hammer(hall, &mut right, 1000);
+            (right, gained)
         },
     )
+}
+
+// Nobody is at the lock, and no unit was lost or left behind.
+fn is_free(word: Word) -> bool {
+    word.count() == 0 && !word.upgrade() && !word.begun() && !word.held()
 }
 
 // Whatever the schedule was, two threads that have ended leave a free lock.
@@ -332,12 +356,68 @@ fn two_threads(rt: HostRuntime) {
     let mut first = first;
     let second = hall.split(&mut first, 1, 0);
     let (left, right) = by_two_threads(&rt, &hall, first, second);
-    let mut left = left;
-    let word = hall.load(&mut left, 0);
-    assert!(rt; word.count() == 0 && !word.upgrade() && !word.begun() && !word.held());
+    let mut left = left.0;
+    assert!(rt; is_free(hall.load(&mut left, 0)));
     let guard = exclusive(&rt, &hall, &mut left);
     word_is(&rt, &hall, &mut left, 8);
     unlock(&hall, &mut left, guard);
-    hall.join(&mut left, right);
+    hall.join(&mut left, right.0);
     word_is(&rt, &hall, &mut left, 0);
+}
+
+fn by_four_threads<R: Threads + Wait + Sync>(
+    rt: &R,
+    hall: &Hall<NoCargo>,
+    front: (Pass<NoCargo>, Pass<NoCargo>),
+    back: (Pass<NoCargo>, Pass<NoCargo>),
+) -> (
+    ((Pass<NoCargo>, u32), (Pass<NoCargo>, u32)),
+    ((Pass<NoCargo>, u32), (Pass<NoCargo>, u32)),
+)
+    requires front { IsIdle hall.now front.0 × IsIdle hall.now front.1 }
+    requires back { IsIdle hall.now back.0 × IsIdle hall.now back.1 }
+    requires lock { 0 < (shape_of hall.now).locks }
+    ensures front { IsIdle hall.now result.0.0.0 × IsIdle hall.now result.0.1.0 }
+    ensures back { IsIdle hall.now result.1.0.0 × IsIdle hall.now result.1.1.0 }
+{
+    thread::join(
+        rt,
+        move || -> ((Pass<NoCargo>, u32), (Pass<NoCargo>, u32))
+            requires { IsSync R.row × IsIdle hall.now front.0 × IsIdle hall.now front.1 × (0 < (shape_of hall.now).locks) }
+            ensures { IsIdle hall.entry.now result.0.0 × IsIdle hall.entry.now result.1.0 }
+        { by_two_threads(rt, hall, front.0, front.1) },
+        move || -> ((Pass<NoCargo>, u32), (Pass<NoCargo>, u32))
+            requires { IsSync R.row × IsIdle hall.now back.0 × IsIdle hall.now back.1 × (0 < (shape_of hall.now).locks) }
+            ensures { IsIdle hall.entry.now result.0.0 × IsIdle hall.entry.now result.1.0 }
+        { by_two_threads(rt, hall, back.0, back.1) },
+    )
+}
+
+// Four threads read and write, a thousand tries each for both. However they met, and whatever was deferred and swept, no
+// unit is lost: each of the four gained no more than it tried for, and they leave a free lock.
+#[test]
+fn four_threads(rt: HostRuntime) {
+    let made = Hall::make(rt.alloc(), 1, 4, Policy::WritePriority, 4, 0, NoCargo);
+    let Ok((hall, first)) = made else {
+        unreachable_without_memory(&rt)
+    };
+    let mut first = first;
+    let fourth = hall.split(&mut first, 1, 0);
+    let third = hall.split(&mut first, 1, 0);
+    let second = hall.split(&mut first, 1, 0);
+    let (front, back) = by_four_threads(&rt, &hall, (first, second), (third, fourth));
+    let ((one, by_one), (two, by_two)) = front;
+    let ((three, by_three), (four, by_four)) = back;
+    for gained in [by_one, by_two, by_three, by_four] {
+        assert!(rt; gained <= 2000);
+    }
+    let mut one = one;
+    assert!(rt; is_free(hall.load(&mut one, 0)));
+    let guard = exclusive(&rt, &hall, &mut one);
+    word_is(&rt, &hall, &mut one, 8);
+    unlock(&hall, &mut one, guard);
+    hall.join(&mut one, two);
+    hall.join(&mut one, three);
+    hall.join(&mut one, four);
+    word_is(&rt, &hall, &mut one, 0);
 }

@@ -4,6 +4,7 @@ ghost use Rattle.std.specs.Prelude.{◌≡◌, true, false, MatchResult};
 ghost use Rattle.hall.specs.Fitting.{AnnouncedFits, UpgradeFits};
 ghost use Rattle.hall.specs.Passes.{view, IsPassOf, shape_of};
 ghost use Rattle.hall.specs.Upgrading.{RetractsUp};
+ghost use Rattle.hall.specs.Slotting.{HasNonePending};
 ghost use Rattle.hall.specs.Views.{standing};
 ghost use Rattle.hall.specs.declared.view.Standing.TheVariants.{Upgrade, Announcing};
 ghost use Rattle.shared_mutex.specs.Acquiring.{ElsewhereSame, MadeAtMost};
@@ -35,6 +36,7 @@ pub fn begin_upgrade<C: Cargo>(
     ensures step { MatchResult result (λ announced. (announced.lock ≡ guard.lock) × (announced.swept ≡ false) × (announced.from_upgrade ≡ true) × BeginsUpgrade C.CargoRule (view pass.old) guard.lock (view pass.new)) (λ raced. (raced.guard ≡ guard) × RacesToBegin C.CargoRule (view pass.old) guard.lock raced.expected raced.found (view pass.new)) }
     ensures stands { MatchResult result (λ _. standing (view pass.new) guard.lock ≡ Announcing 0 0 true) (λ _. standing (view pass.new) guard.lock ≡ Upgrade) }
     ensures fits { MatchResult result (λ announced. AnnouncedFits (shape_of hall.now) (view pass.new) announced) (λ raced. UpgradeFits (shape_of hall.now) (view pass.new) raced.guard) }
+    ensures clear { HasNonePending (view pass.old) → HasNonePending (view pass.new) }
     ensures elsewhere { ElsewhereSame (view pass.old) (view pass.new) guard.lock }
     ensures steps { MadeAtMost (view pass.old) (view pass.new) 2 }
 {
@@ -70,6 +72,7 @@ pub fn retract_upgrade<C: Cargo>(
     ensures fits { UpgradeFits (shape_of hall.now) (view pass.new) result }
     ensures step { (found : _) × RetractsUp C.CargoRule (view pass.old) announced.lock found (view pass.new) }
     ensures upgrade { standing (view pass.new) announced.lock ≡ Upgrade }
+    ensures clear { HasNonePending (view pass.old) → HasNonePending (view pass.new) }
     ensures elsewhere { ElsewhereSame (view pass.old) (view pass.new) announced.lock }
     ensures steps { MadeAtMost (view pass.old) (view pass.new) 1 }
 {

@@ -3,6 +3,7 @@ ghost use Rattle.std.specs.Prelude.{◌≡◌, ◌<◌, IfOk, MatchResult};
 ghost use Rattle.hall.specs.Fitting.{UpgradeFits};
 ghost use Rattle.hall.specs.Passes.{view, IsPassOf, shape_of};
 ghost use Rattle.hall.specs.Upgrading.{LeavesUpgrade};
+ghost use Rattle.hall.specs.Slotting.{HasNonePending};
 ghost use Rattle.hall.specs.Views.{standing};
 ghost use Rattle.hall.specs.declared.view.Standing.TheVariants.{Away, Upgrade};
 ghost use Rattle.shared_mutex.specs.Acquiring.{ElsewhereSame, MadeAtMost};
@@ -27,6 +28,7 @@ pub fn try_lock_upgrade<C: Cargo>(
     ensures step { MatchResult result (λ guard. (guard.lock ≡ lock) × EntersUpgrade C.CargoRule (view pass.old) lock (view pass.new)) (λ fault. RefusesUpgrade C.CargoRule (view pass.old) lock (view pass.new) fault) }
     ensures stands { MatchResult result (λ _. standing (view pass.new) lock ≡ Upgrade) (λ _. standing (view pass.new) lock ≡ Away) }
     ensures fits { IfOk result (λ guard. UpgradeFits (shape_of hall.now) (view pass.new) guard) }
+    ensures clear { HasNonePending (view pass.old) → HasNonePending (view pass.new) }
     ensures elsewhere { ElsewhereSame (view pass.old) (view pass.new) lock }
     ensures steps { MadeAtMost (view pass.old) (view pass.new) 2 }
 {
@@ -50,6 +52,7 @@ pub fn unlock_upgrade<C: Cargo>(hall: &Hall<C>, pass: &mut Pass<C>, guard: Upgra
     ensures pass { IsPassOf hall.now pass.new }
     ensures step { (found : _) × LeavesUpgrade C.CargoRule (view pass.old) guard.lock found (view pass.new) }
     ensures away { standing (view pass.new) guard.lock ≡ Away }
+    ensures clear { HasNonePending (view pass.old) → HasNonePending (view pass.new) }
     ensures elsewhere { ElsewhereSame (view pass.old) (view pass.new) guard.lock }
     ensures steps { MadeAtMost (view pass.old) (view pass.new) 1 }
 {

@@ -1,9 +1,11 @@
 //! What no clause says: that the words are those that are meant, step by step, and that calls succeed where nobody is in
 //! the way.
 ghost use Rattle.std.specs.Prelude.{◌≡◌, ◌<◌, true, false};
+ghost use Rattle.hall.specs.Fitting.{SharedFits};
 ghost use Rattle.hall.specs.Passes.{view, IsPassOf, shape_of};
+ghost use Rattle.hall.specs.Slotting.{HasNonePending};
 ghost use Rattle.hall.specs.Views.{standing};
-ghost use Rattle.hall.specs.declared.view.Standing.TheVariants.{Away, Inline, Upgrade, Exclusive, Announcing};
+ghost use Rattle.hall.specs.declared.view.Standing.TheVariants.{Away, Upgrade, Exclusive, Announcing};
 
 use crate::{
     BeginRaced, begin_upgrade, exclusive_to_shared, exclusive_to_upgrade, retract_upgrade,
@@ -23,6 +25,7 @@ fn word_is<A: Abort>(rt: &A, hall: &Hall<NoCargo>, pass: &mut Pass<NoCargo>, wor
     requires pass { IsPassOf hall.now pass.old × (0 < (shape_of hall.now).locks) }
     ensures pass { IsPassOf hall.now pass.new }
     ensures same { standing (view pass.new) 0 ≡ standing (view pass.old) 0 }
+    ensures clear { HasNonePending (view pass.old) → HasNonePending (view pass.new) }
 {
     assert_eq!(rt; hall.load(pass, 0), Word(word));
 }
@@ -30,8 +33,9 @@ fn word_is<A: Abort>(rt: &A, hall: &Hall<NoCargo>, pass: &mut Pass<NoCargo>, wor
 fn shared<A: Abort>(rt: &A, hall: &Hall<NoCargo>, pass: &mut Pass<NoCargo>) -> SharedGuard
     requires pass { IsPassOf hall.now pass.old × (0 < (shape_of hall.now).locks) }
     requires away { standing (view pass.old) 0 ≡ Away }
+    requires clear { HasNonePending (view pass.old) }
     ensures pass { IsPassOf hall.now pass.new }
-    ensures inline { (result.lock ≡ 0) × (standing (view pass.new) 0 ≡ Inline) }
+    ensures fits { (result.lock ≡ 0) × SharedFits (shape_of hall.now) (view pass.new) result }
 {
     match try_lock_shared(hall, pass, 0) {
         Ok(guard) => guard,
@@ -69,6 +73,7 @@ fn no_upgrade<A: Abort>(rt: &A, hall: &Hall<NoCargo>, pass: &mut Pass<NoCargo>, 
     requires away { standing (view pass.old) 0 ≡ Away }
     ensures pass { IsPassOf hall.now pass.new }
     ensures away { standing (view pass.new) 0 ≡ Away }
+    ensures clear { HasNonePending (view pass.old) → HasNonePending (view pass.new) }
 {
     match try_lock_upgrade(hall, pass, 0) {
         Ok(guard) => {
@@ -84,6 +89,7 @@ fn no_exclusive<A: Abort>(rt: &A, hall: &Hall<NoCargo>, pass: &mut Pass<NoCargo>
     requires away { standing (view pass.old) 0 ≡ Away }
     ensures pass { IsPassOf hall.now pass.new }
     ensures away { standing (view pass.new) 0 ≡ Away }
+    ensures clear { HasNonePending (view pass.old) → HasNonePending (view pass.new) }
 {
     match try_lock(hall, pass, 0) {
         Ok(guard) => {

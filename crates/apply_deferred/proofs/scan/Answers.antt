@@ -1,6 +1,8 @@
 use Rattle.std.proofs.Common.{arith, ℕ, true, false, ap, ◌∙◌, sym}
 use Rattle.hall.specs.declared.view.Standing.TheVariants.{Announcing}
 use Rattle.hall.specs.Passes.{view, shape_of}
+use Rattle.hall.specs.SlotLaws.{none_pending_at}
+use Rattle.hall.specs.Views.{pending}
 use Rattle.apply_deferred.proofs.Scanning.{so_far, swept_all, ends, few_steps, one_more}
 use Rattle.apply_deferred.proofs.scan.Goals as goal
 use Rattle.apply_deferred.proofs.scan.Goals.{then-sweep_slot, else-sweep_slot}
@@ -41,6 +43,9 @@ returns-clause-fits g c = (c.requires.fits.0, (ends g.C.CargoRule (shape_of c.ar
 
 pub returns-clause-elsewhere : goal.returns-clause-elsewhere
 returns-clause-elsewhere g c = (ends g.C.CargoRule (shape_of c.args.hall.now) (view c.args.pass.now) c.args.announced.now c.requires.fits c.requires.unswept c.requires.pass.2 _ _ (returns-clause-sweep g c)).0.elsewhere
+
+pub returns-clause-clear : goal.returns-clause-clear
+returns-clause-clear g c = none_pending_at (view c.args.pass.now) (view c.add_hand.new.pass) c.args.announced.now.lock (returns-clause-elsewhere g c) (ap pending (returns-clause-fits g c).1)
 
 pub returns-clause-steps : goal.returns-clause-steps
 returns-clause-steps g c = few_steps _ _ _ _ (ends g.C.CargoRule (shape_of c.args.hall.now) (view c.args.pass.now) c.args.announced.now c.requires.fits c.requires.unswept c.requires.pass.2 _ _ (returns-clause-sweep g c)).0

@@ -1,8 +1,5 @@
-use Rattle.std.proofs.Common.{◌≡◌}
-use Rattle.hall.specs.Passes.{view, IsPassOf}
-use Rattle.hall.specs.Views.{standing}
-use Rattle.hall.specs.declared.view.Standing.TheVariants.{Away}
+use Rattle.shared_mutex.specs.Beside.{IsIdle}
 use Rattle.shared_mutex.proofs.tests.hammer.Given as goal
 
 abbrev pub invariant-loop : goal.invariant-loop
-invariant-loop l = IsPassOf l.hall l.pass × (standing (view l.pass) 0 ≡ Away)
+invariant-loop l = IsIdle l.hall l.pass
