@@ -4,6 +4,7 @@ use Rattle.std.proofs.Common.{refl, sym, ap, ◌∙◌, get_or-set_same}
 use Rattle.std.proofs.lemmas.List.{set-set}
 use Rattle.std.proofs.lemmas.List.Elements.{All-nil, All-cons}
 use Rattle.lock_model.specs.declared.model.Act.TheVariants as act
+use Rattle.state_word.specs.Words.{enter_of}
 use Rattle.hall.specs.declared.cargo.CargoRule.{Ghosts}
 use Rattle.hall.specs.declared.guards.Form.{Form}
 use Rattle.hall.specs.declared.guards.Form.TheVariants as forms
@@ -45,6 +46,11 @@ is_leaving k = false
 entering_patient : (k : Kind) → is_entering k ≡ true → is_retract k ≡ false
 entering_patient k e = elim k as (λ z. is_entering z ≡ true → is_retract z ≡ false) [ kinds.Retract ↦ λ h. absurd (cc) | kinds.UpRetract ↦ λ h. absurd (cc) | _ ↦ λ h. refl ] e
 
+module _ {P : Type 0} where
+  -- a step of a reader that leaves, under the pass's number, for the lock, from the shared mode
+  abbrev pub IsLeavingStep : View P → ℕ → StepEntry → Type 0
+  IsLeavingStep v lock e = (e.number ≡ v.number) × (e.lock ≡ lock) × (mode_of e.before ≡ shared_mode) × (is_leaving e.kind ≡ true)
+
 module _ {C P : Type 0} (g : Ghosts C P) where
   -- a reader that was outside entered: until its newest step it had only tried, and that step gained it the shared mode, and noted the cargo words behind the lock
   pub record EntersLast (v : View P) (lock : ℕ) (w : View P) : Type 0 where
@@ -76,13 +82,13 @@ module _ {C P : Type 0} (g : Ghosts C P) where
     pub standings : w.standings ≡ slice_set v.standings lock Away
     pub added : List StepEntry
     pub steps : w.steps ≡ added ++ v.steps
-    pub each : All (λ (e : StepEntry). (e.number ≡ v.number) × (e.lock ≡ lock) × (mode_of e.before ≡ shared_mode) × (is_leaving e.kind ≡ true)) added
+    pub each : All (IsLeavingStep v lock) added
     pub trail : Treads (IsWeakAt lock) v w
 
   -- whatever form its hold has
   module _ (v w : View P) (lock : ℕ) (away : standing v lock ≡ Away) where
     by_exchange : (u : View P) (seen : ℕ) → OnlyTried v lock Away u → Enters g u lock seen w → EntersLast v lock w
-    by_exchange u seen t e = record { before = u; from = Away; tried = t; kind = kinds.Enter; enters = refl; word = seen; won = true; to = Inline; holds = refl; weak = refl; words = e.0.0; part = e.0.1; gains = e.0.2; is = e.0.3; left = _; moment = e.1 }
+    by_exchange u seen t e = record { before = u; from = Away; tried = t; kind = kinds.Enter; enters = refl; word = seen; won = true; to = Inline; holds = refl; weak = refl; words = e.0.0; part = e.0.1; gains = e.0.2; is = e.0.3; left = enter_of seen; moment = e.1 }
 
     by_look : (u : View P) (slot word : ℕ) → OnlyTried v lock (Undecided slot) u → Defers g slot u lock word w → EntersLast v lock w
     by_look u slot word t e = record { before = u; from = Undecided slot; tried = t; kind = kinds.Check; enters = refl; word = word; won = false; to = Slotted slot; holds = refl; weak = refl; words = e.0.0; part = e.0.1; gains = e.0.2; is = e.0.3; left = word; moment = e.1 }
@@ -122,9 +128,6 @@ module _ {C P : Type 0} (g : Ghosts C P) where
 
   -- whatever form its hold had
   module _ (v w : View P) (lock : ℕ) (near : lock < length v.standings) where
-    LeftBy : StepEntry → Type 0
-    LeftBy e = (e.number ≡ v.number) × (e.lock ≡ lock) × (mode_of e.before ≡ shared_mode) × (is_leaving e.kind ≡ true)
-
     -- by one step
     by_one : (kind : Kind) (place word : ℕ) (x : Standing) (part : P) → standing v lock ≡ x → mode_of x ≡ shared_mode → is_strong x ≡ false → is_leaving kind ≡ true → part ≡ g.lowered lock None v.part → w ≡ after_step_at v kind lock place word true Away part → LeavesLock v lock w
     by_one kind place word x part here held weak kinded lost is = record {
@@ -137,7 +140,7 @@ module _ {C P : Type 0} (g : Ghosts C P) where
       standings = ap (λ (z : View P). z.standings) is;
       added = entry_at v kind lock place word true ∷ [];
       steps = ap (λ (z : View P). z.steps) is;
-      each = All-cons LeftBy (entry_at v kind lock place word true) [] (refl, refl, ap mode_of here ∙ held, kinded) (All-nil LeftBy);
+      each = All-cons (IsLeavingStep v lock) (entry_at v kind lock place word true) [] (refl, refl, ap mode_of here ∙ held, kinded) (All-nil (IsLeavingStep v lock));
       trail = treads_as (IsBetween lock (standing v lock) Away) (IsWeakAt lock) v w (λ m. weak_between lock (standing v lock) Away m (ap (λ (s : Standing). is_strong s || false) here ∙ ap (λ (b : Bool). b || false) weak)) (treads_step_at v w kind lock place word true Away part is);
     }
 
@@ -159,7 +162,7 @@ module _ {C P : Type 0} (g : Ghosts C P) where
           standings = ap (λ (z : View P). z.standings) back ∙ ap (λ (z : View P). slice_set z.standings lock Away) missed ∙ set-set v.standings lock Inline Away;
           added = lower ∷ (miss ∷ []);
           steps = ap (λ (z : View P). z.steps) back ∙ ap (λ (z : View P). lower ∷ z.steps) missed;
-          each = All-cons LeftBy lower (miss ∷ []) (ap (λ (z : View P). z.number) missed, refl, ap mode_of inside, refl) (All-cons LeftBy miss [] (refl, refl, ap mode_of here, refl) (All-nil LeftBy));
+          each = All-cons (IsLeavingStep v lock) lower (miss ∷ []) (ap (λ (z : View P). z.number) missed, refl, ap mode_of inside, refl) (All-cons (IsLeavingStep v lock) miss [] (refl, refl, ap mode_of here, refl) (All-nil (IsLeavingStep v lock)));
           trail = treads_then (IsWeakAt lock) v o w
               (treads_as (IsBetween lock (standing v lock) Inline) (IsWeakAt lock) v o (λ m. weak_between lock (standing v lock) Inline m (ap (λ (s : Standing). is_strong s || false) here)) (treads_step_at v o kinds.LeaveSlot lock slot r.1 false Inline v.part missed))
               (treads_as (IsBetween lock (standing o lock) Away) (IsWeakAt lock) o w (λ m. weak_between lock (standing o lock) Away m (ap (λ (s : Standing). is_strong s || false) inside)) (treads_step o w kinds.Lower lock r.4.0 true Away (lowered_part g (standing o lock) lock o.part) back));

@@ -227,8 +227,7 @@ module _ {C P : Type 0} (g : Ghosts C P) where
       ⊎_elim
       (λ a. two_words v w lock kinds.Enter expected found r.0 a.1)
       (λ bc. ⊎_elim
-      (λ b. let u : View P = b.1.1 in let t = missed_read v lock expected b.1.0 u b.1.2 in let miss : StepEntry = entry_of u kinds.Enter lock found false in
-      (
+      (λ b. let u : View P = b.1.1 in let t = missed_read v lock expected b.1.0 u b.1.2 in let miss : StepEntry = entry_of u kinds.Enter lock found false in (
         miss ∷ t.0.0,
         ap (λ (z : View P). z.steps) b.1.3 ∙ ap (λ (l : List StepEntry). miss ∷ l) t.0.1,
         ([], miss, t.0.0, expected, refl, (t.1, ap (λ (s : Shape). s.slots + lock) (missed_shape v lock expected b.1.0 u b.1.2)), t.0.2, r.0),
