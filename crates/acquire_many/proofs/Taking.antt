@@ -17,6 +17,7 @@ use Rattle.hall.specs.Slotting.{HasNonePending}
 use Rattle.hall.specs.declared.guards.Form.{Form}
 use Rattle.hall.specs.declared.guards.Form.TheVariants as forms
 use Rattle.hall.specs.declared.view.Standing.{Standing}
+use Rattle.shared_mutex.specs.Acquiring.{steps_to_leave}
 use Rattle.acquire_many.specs.declared.guards.How.{How}
 use Rattle.acquire_many.specs.declared.guards.How.TheVariants as hows
 use Rattle.lock_model.specs.declared.model.Mode.{Mode}
@@ -36,6 +37,12 @@ mode_for : (how : How) → mode_of (stands_for how) ≡ Some (mode_in how)
 mode_for (hows.Shared form) = mode_by form
 mode_for hows.Upgrade = refl
 mode_for hows.Exclusive = refl
+
+-- a reader leaves by two steps at most
+pub few_to_leave : (form : Form) → steps_to_leave form ≤ 2
+few_to_leave (forms.Deferred slot) = omega arith
+few_to_leave (forms.Inline why) = omega arith
+few_to_leave forms.Lowered = omega arith
 
 -- where no token is undecided and no unit owed, it is so after a lock was gained or given back
 clear_by : (form : Form) → pending (stands_by form) ≡ 0

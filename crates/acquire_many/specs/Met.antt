@@ -56,9 +56,9 @@ module _ {C P : Type 0} (g : Ghosts C P) where
   Meets v (lock, hows.Upgrade) w = (faults : List TryFault) × EntersUpgradeAtLast g v lock faults w
   Meets v (lock, hows.Exclusive) w = (faults : List TryFault) × (misses : List TryFault) × WritesAtLast g v lock faults misses w
 
-  -- and each step on the way was a patient waiter's: it was for the lock, by a pass that held no mode there, and took no announcement back
+  -- and so by a pass that was away from the lock, each of whose steps on the way was a patient waiter's: it was for the lock, with no mode held there, and took no announcement back
   abbrev pub MeetsPatiently : View P → Hold → View P → Type 0
-  MeetsPatiently v x w = Meets v x w × AddsSteps (IsPatientTry v x.0) v w
+  MeetsPatiently v x w = (standing v x.0 ≡ stand.Away) × Meets v x w × AddsSteps (IsPatientTry v x.0) v w
 
   -- one try took the lock, which is held so
   abbrev pub Takes : View P → Hold → View P → Type 0

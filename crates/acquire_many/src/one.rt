@@ -87,6 +87,7 @@ pub(crate) fn try_to_take<C: Cargo>(
 }
 
 /// Gives a lock back.
+#[tactic(auto, using(crate::proofs::Taking::few_to_leave))]
 pub(crate) fn give_back<C: Cargo>(hall: &Hall<C>, pass: &mut Pass<C>, hold: (u64, How))
     requires pass { IsPassOf hall.now pass.old }
     requires fits { HoldFits (shape_of hall.now) (view pass.old) hold }

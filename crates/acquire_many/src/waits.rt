@@ -59,9 +59,11 @@ pub(crate) fn rise<R: Wait, C: Cargo>(
     requires pass { IsPassOf hall.now pass.old }
     requires lock { lock < (shape_of hall.now).locks }
     requires away { standing (view pass.old) lock ≡ Away }
+    requires clear { HasNonePending (view pass.old) }
     ensures pass { IsPassOf hall.now pass.new }
     ensures lock { result.lock ≡ lock }
     ensures stands { standing (view pass.new) lock ≡ Upgrade }
+    ensures clear { HasNonePending (view pass.new) }
     ensures elsewhere { ElsewhereSame (view pass.old) (view pass.new) lock }
     ensures step { (faults : List TryFault) × EntersUpgradeAtLast C.CargoRule (view pass.old) lock faults (view pass.new) }
     ensures patient { AddsSteps (IsPatientTry (view pass.old) lock) (view pass.old) (view pass.new) }
@@ -168,9 +170,11 @@ pub(crate) fn write<R: Wait, C: Cargo>(
     requires pass { IsPassOf hall.now pass.old }
     requires lock { lock < (shape_of hall.now).locks }
     requires away { standing (view pass.old) lock ≡ Away }
+    requires clear { HasNonePending (view pass.old) }
     ensures pass { IsPassOf hall.now pass.new }
     ensures lock { result.lock ≡ lock }
     ensures stands { standing (view pass.new) lock ≡ Exclusive }
+    ensures clear { HasNonePending (view pass.new) }
     ensures elsewhere { ElsewhereSame (view pass.old) (view pass.new) lock }
     ensures step { (faults : List TryFault) × (misses : List TryFault) × WritesAtLast C.CargoRule (view pass.old) lock faults misses (view pass.new) }
     ensures patient { AddsSteps (IsPatientTry (view pass.old) lock) (view pass.old) (view pass.new) }

@@ -18,7 +18,7 @@ loop-position-preserved g c =
       clear = search rules;
       room = length-set _ _ _ ∙ so_far.room;
       took = took_by g.C.CargoRule (MeetsPatiently g.C.CargoRule) c.args.wants.now (shape_of c.args.hall.now) (view c.args.pass.now) c.loop-position.from k c.loop-position.holds (view c.loop-position.pass) (view c.take-how.new.pass) c.in_default.ensures least so_far.took c.take-how.result c.take-how.ensures.mode
-          (λ x y hold away met. meets_treads g.C.CargoRule x y hold away met.0) (λ x y hold away met. meets_learns g.C.CargoRule x y hold away met.0) (omega (arith, so_far.room, c.requires.few, least.0)) (c.requires.away k least.0) c.take-how.ensures.step c.take-how.ensures.fits c.take-how.ensures.elsewhere;
+          (λ x y hold away met. meets_treads g.C.CargoRule x y hold away met.1) (λ x y hold away met. meets_learns g.C.CargoRule x y hold away met.1) (omega (arith, so_far.room, c.requires.few, least.0)) (c.requires.away k least.0) c.take-how.ensures.step c.take-how.ensures.fits c.take-how.ensures.elsewhere;
     }
 
 pub returns-clause-took : goal.returns-clause-took
