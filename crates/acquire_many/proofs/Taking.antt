@@ -24,7 +24,7 @@ use Rattle.lock_model.specs.declared.model.Mode.{Mode}
 use Rattle.lock_model.specs.declared.model.Mode.TheVariants as modes
 use Rattle.acquire_many.specs.Guards.{Fit}
 use Rattle.acquire_many.specs.MetLaws.{no_some, returns_leave, returns_treads, some_same}
-use Rattle.acquire_many.specs.Met.{AtFirst, IfThere, Learns, HeldBelow, HoldFits, InTurn, IsFor, IsForAny, IsHeld, Returns, stands_for}
+use Rattle.acquire_many.specs.Met.{AtFirst, IfThere, Learns, HeldBelow, HoldFits, InTurn, IsFor, IsForAny, IsHeld, Returns, ReturnsHeld, stands_for}
 use Rattle.acquire_many.specs.Took.{GaveFirst, IsForHeld, TookAll, TookBelow}
 use Rattle.acquire_many.specs.Wants.{AllBelow, AreApart, Hold, InOrderBelow, IsLeast, Want, lock_at, mode_in, want_at, want_of}
 
@@ -181,15 +181,15 @@ module _ {C P : Type 0} (g : Ghosts C P) (holds : List (Option Hold)) (v : View 
   pub gave_none : GaveFirst g holds v 0 v
   gave_none = record { returned = refl; away = λ k x low. absurd (omega (arith, low)); elsewhere = λ lock aside. refl; trail = treads_none (IsForHeld g holds) v v refl refl; others = λ lock aside was. was }
 
-  at_more : (n : ℕ) (u w : View P) → AtFirst (Returns g) holds v n u → IfThere (Returns g) u (slice_index_or holds n None) w → AtFirst (Returns g) holds v (n + 1) w
+  at_more : (n : ℕ) (u w : View P) → AtFirst (ReturnsHeld g) holds v n u → IfThere (ReturnsHeld g) u (slice_index_or holds n None) w → AtFirst (ReturnsHeld g) holds v (n + 1) w
   at_more n u w before last =
-      let more : AtFirst (Returns g) holds v (suc n) w = (u, before, last) in let e : suc n ≡ n + 1 = omega arith in
-      subst (λ (i : ℕ). AtFirst (Returns g) holds v i w) e more
+      let more : AtFirst (ReturnsHeld g) holds v (suc n) w = (u, before, last) in let e : suc n ≡ n + 1 = omega arith in
+      subst (λ (i : ℕ). AtFirst (ReturnsHeld g) holds v i w) e more
 
   -- at the next position there is none
   pub gave_skip : (n : ℕ) (u : View P) → slice_index_or holds n None ≡ None → GaveFirst g holds v n u → GaveFirst g holds v (n + 1) u
   gave_skip n u none t = record {
-    returned = at_more n u u t.returned (subst (λ (o : Option Hold). IfThere (Returns g) u o u) (sym none) refl);
+    returned = at_more n u u t.returned (subst (λ (o : Option Hold). IfThere (ReturnsHeld g) u o u) (sym none) refl);
     away = λ k x low at. ⊎_elim (λ lt. t.away k x lt at) (λ ge. absurd (no_hold x (subst (λ i. slice_index_or holds i None ≡ Some x) (omega (arith, low, ge)) at))) (cases_lt k n);
     elsewhere = λ lock aside. t.elsewhere lock (λ k x low at. aside k x (omega (arith, low)) at);
     trail = t.trail;
@@ -200,9 +200,9 @@ module _ {C P : Type 0} (g : Ghosts C P) (holds : List (Option Hold)) (v : View 
       no_hold x at = absurd (cc)
 
   -- the next one was given back
-  pub gave_more : (n : ℕ) (x : Hold) (shape : Shape) (u w : View P) → Fit shape v holds → slice_index_or holds n None ≡ Some x → GaveFirst g holds v n u → Returns g u x w → standing w x.0 ≡ stand.Away → ElsewhereSame u w x.0 → Treads (IsFor (want_of x)) u w → ((other : ℕ) → other ≢ x.0 → g.settled other u.part → g.settled other w.part) → GaveFirst g holds v (n + 1) w
+  pub gave_more : (n : ℕ) (x : Hold) (shape : Shape) (u w : View P) → Fit shape v holds → slice_index_or holds n None ≡ Some x → GaveFirst g holds v n u → ReturnsHeld g u x w → standing w x.0 ≡ stand.Away → ElsewhereSame u w x.0 → Treads (IsFor (want_of x)) u w → ((other : ℕ) → other ≢ x.0 → g.settled other u.part → g.settled other w.part) → GaveFirst g holds v (n + 1) w
   gave_more n x shape u w fit here t back away elsewhere trail others = record {
-    returned = at_more n u w t.returned (subst (λ (o : Option Hold). IfThere (Returns g) u o w) (sym here) back);
+    returned = at_more n u w t.returned (subst (λ (o : Option Hold). IfThere (ReturnsHeld g) u o w) (sym here) back);
     away = λ k y low at. ⊎_elim
         (λ lt. elsewhere y.0 (fit.apart k n y x at here (λ e. absurd (omega (arith, lt, e)))) ∙ t.away k y lt at)
         (λ ge. let e : k ≡ n = omega (arith, low, ge) in subst (λ (z : Hold). standing w z.0 ≡ stand.Away) (same_hold y (subst (λ i. slice_index_or holds i None ≡ Some y) e at)) away)
@@ -228,4 +228,4 @@ module _ {C P : Type 0} (g : Ghosts C P) (holds : List (Option Hold)) (v : View 
       → MatchOption o (w ≡ u) (λ x. Returns g u x w × (standing w x.0 ≡ stand.Away) × ElsewhereSame u w x.0) → GaveFirst g holds v (n + 1) w
   gave_at n shape u w wide fit t None at held same = subst (λ (z : View P). GaveFirst g holds v (n + 1) z) (sym same) (gave_skip n u at t)
   gave_at n shape u w wide fit t (Some x) at held s =
-      let near : x.0 < length u.standings = omega (arith, held.0.0, wide) in gave_more n x shape u w fit at t s.0 s.1 s.2 (returns_treads g u w x near held.0.1 s.0) (returns_leave g u w x near held.0.1 s.0)
+      let near : x.0 < length u.standings = omega (arith, held.0.0, wide) in gave_more n x shape u w fit at t (held.0.1, s.0) s.1 s.2 (returns_treads g u w x near held.0.1 s.0) (returns_leave g u w x near held.0.1 s.0)

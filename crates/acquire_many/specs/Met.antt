@@ -78,6 +78,10 @@ module _ {C P : Type 0} (g : Ghosts C P) where
   Returns v (lock, hows.Upgrade) w = (found : ℕ) × LeavesUpgrade g v lock found w
   Returns v (lock, hows.Exclusive) w = Releases g v lock 8 w
 
+  -- and so by a pass that held the lock as the hold says
+  abbrev pub ReturnsHeld : View P → Hold → View P → Type 0
+  ReturnsHeld v x w = (standing v x.0 ≡ stands_for x.1) × Returns v x w
+
 -- the holds at these positions were gained one after the other, each in this way; the position that was met last stands first
 abbrev pub InTurn : {V : Type 0} → (V → Hold → V → Type 0) → List (Option Hold) → V → List ℕ → V → Type 0
 InTurn meets holds v [] w = w ≡ v

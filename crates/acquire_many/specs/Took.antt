@@ -11,7 +11,7 @@ use Rattle.hall.specs.Views.{mode_of, standing}
 use Rattle.acquire_many.specs.declared.guards.TheConstants.{MANY}
 use Rattle.acquire_many.specs.declared.many.ManyFault.{ManyFault}
 use Rattle.acquire_many.specs.declared.many.ManyFault.TheVariants as faults
-use Rattle.acquire_many.specs.Met.{AtFirst, HeldAll, HeldBelow, HoldFits, InTurn, IsFor, IsForAny, Refuses, Returns, Takes}
+use Rattle.acquire_many.specs.Met.{AtFirst, HeldAll, HeldBelow, HoldFits, InTurn, IsFor, IsForAny, Refuses, ReturnsHeld, Takes}
 use Rattle.acquire_many.specs.Wants.{Hold, InOrder, InOrderBelow, IsFirstTwice, Want, lock_at, want_at, want_of}
 
 module _ {C P : Type 0} (g : Ghosts C P) (meets : View P → Hold → View P → Type 0) (wants : List Want) where
@@ -50,7 +50,7 @@ module _ {C P : Type 0} (g : Ghosts C P) (holds : List (Option Hold)) where
 
   -- the holds at the first n positions were given back, in their order
   pub record GaveFirst (v : View P) (n : ℕ) (w : View P) : Type 0 where
-    pub returned : AtFirst (Returns g) holds v n w
+    pub returned : AtFirst (ReturnsHeld g) holds v n w
     pub away : (k : ℕ) (x : Hold) → k < n → slice_index_or holds k None ≡ Some x → standing w x.0 ≡ stand.Away
     pub elsewhere : (lock : ℕ) → ((k : ℕ) (x : Hold) → k < n → slice_index_or holds k None ≡ Some x → x.0 ≢ lock) → standing w lock ≡ standing v lock
     pub trail : Treads IsForHeld v w
@@ -68,7 +68,7 @@ module _ {C P : Type 0} (g : Ghosts C P) (wants : List Want) where
     pub refused : Refuses g before (want_at wants index) after fault
     pub holds : List (Option Hold)
     pub held : HeldBelow wants (lock_at wants index) holds
-    pub returned : AtFirst (Returns g) holds after MANY w
+    pub returned : AtFirst (ReturnsHeld g) holds after MANY w
     pub away : (k : ℕ) → k < length wants → standing w (lock_at wants k) ≡ stand.Away
     pub elsewhere : (lock : ℕ) → ((k : ℕ) → k < length wants → lock_at wants k ≢ lock) → standing w lock ≡ standing v lock
     pub trail : Treads (IsForAny wants) v w
