@@ -1,6 +1,8 @@
+pub mod AskingTwo
 pub mod Cells
 pub mod Counting
 pub mod Jobs
+pub mod LeavingTwo
 pub mod Moving
 pub mod Pairs
 pub mod Placing
@@ -8,5 +10,6 @@ pub mod Quiet
 pub mod Refusing
 pub mod Replies
 pub mod Taking
+pub mod TakingTwo
 pub mod Trails
 pub mod Tries

@@ -31,7 +31,6 @@ use Rattle.map_cargo.specs.Steps.{MoreSteps}
 use Rattle.query_cells.specs.Asked.{GoesByTries, OnlyTried, TakesInOrder, is_granted, is_job}
 use Rattle.query_cells.specs.Answers.{Tells, TurnedAway}
 use Rattle.query_cells.specs.Placing.{IsPlacedUnder, PlacedUnder}
-use Rattle.query_cells.proofs.Trails.{InOrder}
 
 not_both : (b : Bool) → b ≡ true → b ≡ false → ⊥
 not_both b t f = absurd (cc)
@@ -90,38 +89,7 @@ one_in_order q cell v w takes = λ low high a b less.
 pub order_then : (v u w : View Part) (low high : ℕ) → AddsReads (λ shape number added. GainedInOrder low high number added) v u → MoreSteps u w → AddsReads (λ shape number added. GainedInOrder low high number added) v w
 order_then v u w low high order more = reads_then (λ shape number added. GainedInOrder low high number added) (λ shape number added steps. still_in_order low high number added steps) v u w order (more.added, more.stand)
 
-is_either : (b : Bool) (from to k : ℕ) → Has (cond b [] (from ∷ to ∷ [])) k → (k ≡ from) ⊎ (k ≡ to)
-is_either true from to k has = absurd has
-is_either false from to k has = ⊎_elim (λ e. inl e) (λ more. inr (is_one to k more)) has
-
--- which of two is the lower
-module _ (from to low high : ℕ) (order : InOrder from to low high) (lower : low < high) (a b : ℕ) (less : a < b) where
-  is_low : (a ≡ from) ⊎ (a ≡ to) → (b ≡ from) ⊎ (b ≡ to) → a ≡ low
-  is_low one other = ⊎_elim
-      (λ p. ⊎_elim (λ q. ⊎_elim (λ o. omega (arith, p, q, o.0, o.1, lower, less)) (λ o. omega (arith, p, q, o.0, o.1, lower, less)) order) (λ q. ⊎_elim (λ o. omega (arith, p, q, o.0, o.1, lower, less)) (λ o. omega (arith, p, q, o.0, o.1, lower, less)) order) other)
-      (λ p. ⊎_elim (λ q. ⊎_elim (λ o. omega (arith, p, q, o.0, o.1, lower, less)) (λ o. omega (arith, p, q, o.0, o.1, lower, less)) order) (λ q. ⊎_elim (λ o. omega (arith, p, q, o.0, o.1, lower, less)) (λ o. omega (arith, p, q, o.0, o.1, lower, less)) order) other)
-      one
-
-  is_high : (a ≡ from) ⊎ (a ≡ to) → (b ≡ from) ⊎ (b ≡ to) → b ≡ high
-  is_high one other = ⊎_elim
-      (λ p. ⊎_elim (λ q. ⊎_elim (λ o. omega (arith, p, q, o.0, o.1, lower, less)) (λ o. omega (arith, p, q, o.0, o.1, lower, less)) order) (λ q. ⊎_elim (λ o. omega (arith, p, q, o.0, o.1, lower, less)) (λ o. omega (arith, p, q, o.0, o.1, lower, less)) order) other)
-      (λ p. ⊎_elim (λ q. ⊎_elim (λ o. omega (arith, p, q, o.0, o.1, lower, less)) (λ o. omega (arith, p, q, o.0, o.1, lower, less)) order) (λ q. ⊎_elim (λ o. omega (arith, p, q, o.0, o.1, lower, less)) (λ o. omega (arith, p, q, o.0, o.1, lower, less)) order) other)
-      one
-
-module _ (v w : View Part) (from to low high : ℕ) (order : InOrder from to low high) (lower : low < high) (gained : AddsReads (λ shape number added. GainedInOrder low high number added) v w) where
-  two_in_order : (q : Query) → taken_cells q ≡ cond (from == to) [] (from ∷ to ∷ []) → TakesInOrder q v w
-  two_in_order q takes = λ a b has_a has_b less.
-      let one = is_either (from == to) from to a (subst (λ (l : List ℕ). Has l a) takes has_a) in let other = is_either (from == to) from to b (subst (λ (l : List ℕ). Has l b) takes has_b) in
-      subst (λ (i : ℕ). AddsReads (λ shape number added. GainedInOrder i b number added) v w) (sym (is_low from to low high order lower a b less one other))
-      (subst (λ (i : ℕ). AddsReads (λ shape number added. GainedInOrder low i number added) v w) (sym (is_high from to low high order lower a b less one other)) gained)
-
-  pub moves_in_order : (key n : ℕ) → TakesInOrder (query.Move from to key n) v w
-  moves_in_order key n = two_in_order (query.Move from to key n) refl
-
-  pub looks_in_order : (key : ℕ) → TakesInOrder (query.Both from to key) v w
-  looks_in_order key = two_in_order (query.Both from to key) refl
-
--- and two that are the same one aren't taken
+-- two that are the same one aren't taken
 pub same_in_move : (a b key n : ℕ) (v w : View Part) → a ≡ b → TakesInOrder (query.Move a b key n) v w
 same_in_move a b key n v w e = none_in_order (query.Move a b key n) v w (ap (λ (t : Bool). cond t [] (a ∷ b ∷ [])) (eq-eqb a b e))
 

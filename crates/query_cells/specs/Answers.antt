@@ -109,14 +109,6 @@ pub record ChangesWords (v w : View Part) : Type 0 where
   pub row : w.part.row ≡ v.part.row
   pub stored : w.part.stored ≡ v.part.stored
 
--- a pass holds these two cells alone, both in this way, and their words mean their maps
-pub record HoldsTwo (a b : ℕ) (y : Standing) (v : View Part) : Type 0 where
-  pub first : standing v a ≡ y
-  pub second : standing v b ≡ y
-  pub others : (k : ℕ) → k ≢ a → k ≢ b → standing v k ≡ Away
-  pub first_settled : IsSettled a v.part
-  pub second_settled : IsSettled b v.part
-
 -- a cell wasn't taken: the pass only tried for it, is away from it, and has told nothing
 pub record TurnedAway (lock : ℕ) (v w : View Part) : Type 0 where
   pub away : standing w lock ≡ Away
@@ -129,10 +121,3 @@ pub record Took (lock : ℕ) (y : Standing) (v w : View Part) : Type 0 where
   pub stands : standing w lock ≡ y
   pub elsewhere : (k : ℕ) → k ≢ lock → standing w k ≡ standing v k
   pub gained : Gained lock v w
-
--- a footprint at one of two locks, and no strong one
-abbrev pub IsAtEither : ℕ → ℕ → Footprint → Type 0
-IsAtEither a b m = IsAt a m ⊎ IsAt b m
-
-abbrev pub IsWeakAtEither : ℕ → ℕ → Footprint → Type 0
-IsWeakAtEither a b m = IsWeakAt a m ⊎ IsWeakAt b m

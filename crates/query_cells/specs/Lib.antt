@@ -1,4 +1,5 @@
 pub mod Asked
 pub mod Placing
 pub mod Answers
+pub mod Two
 pub mod LicenceLaws

@@ -1,130 +1,58 @@
-//! Queries of two cells, which are held one after the other, the lower number first.
-ghost use Rattle.std.specs.Prelude.{◌≡◌, ◌≢◌, ◌<◌, ◌≤◌, ◌⊎◌, ◌∷◌, [], ℕ, Some, true, unwrap_or};
+//! Queries of two cells, which are held at once.
+ghost use Rattle.std.specs.Prelude.{◌≡◌, ◌≢◌, ◌<◌, ◌≤◌, ℕ, Some, None, MatchResult, false, true, unwrap_or};
+ghost use Rattle.hall.specs.Cargo.{exclusive_mode};
 ghost use Rattle.hall.specs.Passes.{view, IsPassOf, shape_of, cargo_of};
 ghost use Rattle.hall.specs.Treading.{Treads};
-ghost use Rattle.hall.specs.Views.{standing};
-ghost use Rattle.hall.specs.declared.view.Standing.TheVariants.{Inline, Exclusive};
+ghost use Rattle.hall.specs.Views.{standing, mode_of};
 ghost use Rattle.query_rules.specs.declared.query.Query.{Query};
-ghost use Rattle.query_rules.specs.Maps.{reply_of, less};
+ghost use Rattle.query_rules.specs.Maps.{is_write, reply_of, less};
 ghost use Rattle.map_cargo.specs.Cells.{Means};
 ghost use Rattle.map_cargo.specs.History.{words_of, plain_of, IsSettled, IsRested};
 ghost use Rattle.map_cargo.specs.Steps.{Suits, Alike, Reworded, IsIdle, Left};
-ghost use Rattle.shared_mutex.specs.Refused.{AddsReads};
-ghost use Rattle.sync_cell.specs.Gains.{GainedInOrder};
+ghost use Rattle.sync_cell.specs.Cells.{maps};
+ghost use Rattle.acquire_many.specs.Guards.{said_by};
+ghost use Rattle.acquire_many.specs.Took.{IsForHeld};
 ghost use Rattle.query_cells.specs.Asked.{MayTread, TakesInOrder, is_granted};
-ghost use Rattle.query_cells.specs.Answers.{ChangesWords, HoldsTwo, IsAtEither, IsWeakAtEither, LeadsBack, Leaves, Tells, TellsNothing};
+ghost use Rattle.query_cells.specs.Answers.{ChangesWords, LeadsBack, Leaves, Tells};
+ghost use Rattle.query_cells.specs.Two.{GuardsBoth, TakesBoth};
 
-use crate::holding::{hold_for_reading, hold_for_writing, leave_reading, leave_writing};
 use crate::telling::{tell, tell_read};
-use hall::{Hall, Pass};
+use acquire_many::{Guards, SameCell, lock_many, unlock_many};
+use hall::{Hall, Mode, Pass};
 use map_cargo::{MapCargo, get, put};
 use query_rules::{Query, Reply, Said};
 use std::sync::Wait;
-use sync_cell::{ReadPtr, WritePtr};
 
-// Two cells, the lower number first.
-fn in_order(one: u64, other: u64) -> (u64, u64)
-    requires { one ≢ other }
-    ensures low { result.0 < result.1 }
-    ensures both { ((result.0 ≡ one) × (result.1 ≡ other)) ⊎ ((result.0 ≡ other) × (result.1 ≡ one)) }
-{
-    if one < other {
-        (one, other)
-    } else {
-        (other, one)
-    }
-}
-
-// Waits until both cells are held for writing.
-#[tactic(auto, using(crate::proofs::Pairs::away_beside, crate::proofs::Pairs::two_held, crate::proofs::Pairs::two_nothing))]
-fn hold_two_for_writing<R: Wait>(
+// Waits until both cells are held in this mode, the lower number first. Two that are the same one aren't taken.
+fn take_two<R: Wait>(
     rt: &R,
     hall: &Hall<MapCargo>,
     pass: &mut Pass<MapCargo>,
-    low: u64,
-    high: u64,
-) -> (WritePtr, WritePtr)
+    one: u64,
+    other: u64,
+    mode: Mode,
+) -> Result<Guards, SameCell>
     requires pass { IsPassOf hall.now pass.old }
-    requires cells { (low < high) × (high < (shape_of hall.now).locks) }
+    requires cells { (one < (shape_of hall.now).locks) × (other < (shape_of hall.now).locks) }
     requires idle { IsIdle (view pass.old) }
     ensures pass { IsPassOf hall.now pass.new }
-    ensures cells { (result.0.guard.lock ≡ low) × (result.1.guard.lock ≡ high) }
-    ensures held { HoldsTwo low high Exclusive (view pass.new) }
-    ensures nothing { TellsNothing (view pass.old) (view pass.new) }
-    ensures order { AddsReads (λ shape number added. GainedInOrder low high number added) (view pass.old) (view pass.new) }
-    ensures trail { Treads (IsAtEither low high) (view pass.old) (view pass.new) }
+    ensures took { MatchResult result (λ guards. TakesBoth (shape_of hall.now) one other mode guards (view pass.old) (view pass.new)) (λ _. (one ≡ other) × (view pass.new ≡ view pass.old)) }
 {
-    let first = hold_for_writing(rt, hall, pass, low);
-    let second = hold_for_writing(rt, hall, pass, high);
-    (first, second)
+    lock_many(rt, hall, pass, &[(one, mode), (other, mode)])
 }
 
-// Waits until both cells are held for reading.
-#[tactic(auto, using(crate::proofs::Pairs::away_beside, crate::proofs::Pairs::two_held, crate::proofs::Pairs::two_nothing))]
-fn hold_two_for_reading<R: Wait>(
-    rt: &R,
-    hall: &Hall<MapCargo>,
-    pass: &mut Pass<MapCargo>,
-    low: u64,
-    high: u64,
-) -> (ReadPtr, ReadPtr)
+// Gives two cells back.
+fn leave_two(hall: &Hall<MapCargo>, pass: &mut Pass<MapCargo>, guards: Guards)
     requires pass { IsPassOf hall.now pass.old }
-    requires cells { (low < high) × (high < (shape_of hall.now).locks) }
-    requires idle { IsIdle (view pass.old) }
-    ensures pass { IsPassOf hall.now pass.new }
-    ensures cells { (result.0.guard.lock ≡ low) × (result.1.guard.lock ≡ high) }
-    ensures held { HoldsTwo low high Inline (view pass.new) }
-    ensures nothing { TellsNothing (view pass.old) (view pass.new) }
-    ensures order { AddsReads (λ shape number added. GainedInOrder low high number added) (view pass.old) (view pass.new) }
-    ensures trail { Treads (IsWeakAtEither low high) (view pass.old) (view pass.new) }
-{
-    let first = hold_for_reading(rt, hall, pass, low);
-    let second = hold_for_reading(rt, hall, pass, high);
-    (first, second)
-}
-
-// Gives two cells back that were held for writing.
-#[tactic(auto, using(crate::proofs::Pairs::first_stands, crate::proofs::Pairs::first_is_settled, crate::proofs::Pairs::two_left, crate::proofs::Pairs::both_left, crate::proofs::Placing::leads_then))]
-fn leave_two_writing(
-    hall: &Hall<MapCargo>,
-    pass: &mut Pass<MapCargo>,
-    first: WritePtr,
-    second: WritePtr,
-)
-    requires pass { IsPassOf hall.now pass.old }
-    requires cells { (first.guard.lock < second.guard.lock) × (second.guard.lock < (shape_of hall.now).locks) }
-    requires held { HoldsTwo first.guard.lock second.guard.lock Exclusive (view pass.old) }
+    requires held { (one : ℕ) × (other : ℕ) × (mode : Mode) × GuardsBoth (shape_of hall.now) one other mode guards (view pass.old) }
     requires rested { IsRested (view pass.old).part }
     ensures pass { IsPassOf hall.now pass.new }
     ensures idle { IsIdle (view pass.new) }
     ensures left { Left (view pass.old) (view pass.new) }
     ensures back { LeadsBack (cargo_of hall.now) (view pass.old) (view pass.new) }
-    ensures trail { Treads (IsAtEither first.guard.lock second.guard.lock) (view pass.old) (view pass.new) }
+    ensures trail { Treads (IsForHeld maps (said_by guards)) (view pass.old) (view pass.new) }
 {
-    leave_writing(hall, pass, second);
-    leave_writing(hall, pass, first);
-}
-
-// Gives two cells back that were held for reading.
-#[tactic(auto, using(crate::proofs::Pairs::first_stands, crate::proofs::Pairs::two_left, crate::proofs::Pairs::both_left, crate::proofs::Placing::leads_then))]
-fn leave_two_reading(
-    hall: &Hall<MapCargo>,
-    pass: &mut Pass<MapCargo>,
-    first: ReadPtr,
-    second: ReadPtr,
-)
-    requires pass { IsPassOf hall.now pass.old }
-    requires cells { (first.guard.lock < second.guard.lock) × (second.guard.lock < (shape_of hall.now).locks) }
-    requires held { HoldsTwo first.guard.lock second.guard.lock Inline (view pass.old) }
-    requires rested { IsRested (view pass.old).part }
-    ensures pass { IsPassOf hall.now pass.new }
-    ensures idle { IsIdle (view pass.new) }
-    ensures left { Left (view pass.old) (view pass.new) }
-    ensures back { LeadsBack (cargo_of hall.now) (view pass.old) (view pass.new) }
-    ensures trail { Treads (IsWeakAtEither first.guard.lock second.guard.lock) (view pass.old) (view pass.new) }
-{
-    leave_reading(hall, pass, second);
-    leave_reading(hall, pass, first);
+    unlock_many(hall, pass, guards);
 }
 
 // Takes an amount from what a key has in a cell; a key that isn't there stays away.
@@ -140,7 +68,7 @@ fn lessen(
     requires pass { IsPassOf hall.now pass.old }
     requires suits { Suits hall.now }
     requires cell { cell < (cargo_of hall.now).cells }
-    requires held { standing (view pass.old) cell ≡ Exclusive }
+    requires held { mode_of (standing (view pass.old) cell) ≡ exclusive_mode }
     requires settled { IsSettled cell (view pass.old).part }
     requires has { has ≡ (plain_of (view pass.old).part cell).value_at key }
     requires enough { n ≤ unwrap_or has 0 }
@@ -169,7 +97,8 @@ fn shift(
     requires suits { Suits hall.now }
     requires cells { (from < (cargo_of hall.now).cells) × (to < (cargo_of hall.now).cells) }
     requires different { from ≢ to }
-    requires held { HoldsTwo from to Exclusive (view pass.old) }
+    requires held { (mode_of (standing (view pass.old) from) ≡ exclusive_mode) × (mode_of (standing (view pass.old) to) ≡ exclusive_mode) }
+    requires settled { IsSettled from (view pass.old).part × IsSettled to (view pass.old).part }
     ensures pass { IsPassOf hall.now pass.new }
     ensures words { ChangesWords (view pass.old) (view pass.new) }
     ensures says { reply_of (cargo_of hall.now).rows (plain_of (view pass.old).part) (Query.Move from to key n) ≡ Some result }
@@ -205,10 +134,12 @@ fn look_up_two(
     requires suits { Suits hall.now }
     requires cells { (first < (cargo_of hall.now).cells) × (second < (cargo_of hall.now).cells) }
     requires different { first ≢ second }
-    requires held { HoldsTwo first second Inline (view pass.old) }
+    requires held { (mode_of (standing (view pass.old) first) ≢ None) × (mode_of (standing (view pass.old) second) ≢ None) }
+    requires settled { IsSettled first (view pass.old).part × IsSettled second (view pass.old).part }
     ensures pass { IsPassOf hall.now pass.new }
     ensures words { ChangesWords (view pass.old) (view pass.new) }
     ensures part { (view pass.new).part ≡ (view pass.old).part }
+    ensures reads { is_write result ≡ false }
     ensures says { reply_of (cargo_of hall.now).rows (plain_of (view pass.old).part) (Query.Both first second key) ≡ Some result }
 {
     let one = get(hall, pass, first, key);
@@ -239,14 +170,12 @@ pub(crate) fn ask_move<R: Wait>(
     ensures order { TakesInOrder (Query.Move from to key n) (view pass.old) (view pass.new) }
 {
     let query = Query::Move { from, to, key, n };
-    if from == to {
+    let Ok(guards) = take_two(rt, hall, pass, from, to, Mode::Exclusive) else {
         return tell_read(hall, pass, index, &query, Said::Same);
-    }
-    let (low, high) = in_order(from, to);
-    let (first, second) = hold_two_for_writing(rt, hall, pass, low, high);
+    };
     let said = shift(hall, pass, from, to, key, n);
     let reply = tell(hall, pass, index, &query, said);
-    leave_two_writing(hall, pass, first, second);
+    leave_two(hall, pass, guards);
     reply
 }
 
@@ -271,13 +200,11 @@ pub(crate) fn ask_both<R: Wait>(
     ensures order { TakesInOrder (Query.Both first second key) (view pass.old) (view pass.new) }
 {
     let query = Query::Both { first, second, key };
-    if first == second {
+    let Ok(guards) = take_two(rt, hall, pass, first, second, Mode::Shared) else {
         return tell_read(hall, pass, index, &query, Said::Same);
-    }
-    let (low, high) = in_order(first, second);
-    let (lower, upper) = hold_two_for_reading(rt, hall, pass, low, high);
+    };
     let said = look_up_two(hall, pass, first, second, key);
     let reply = tell_read(hall, pass, index, &query, said);
-    leave_two_reading(hall, pass, lower, upper);
+    leave_two(hall, pass, guards);
     reply
 }

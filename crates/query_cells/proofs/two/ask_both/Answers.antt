@@ -1,31 +1,57 @@
-use Rattle.hall.specs.Passes.{view, cargo_of}
-use Rattle.query_cells.proofs.Pairs.{words_tell_nothing}
-use Rattle.query_cells.proofs.Replies.{nothing_then, tells_after, tells_then}
-use Rattle.hall.specs.Treading.{treads_then}
-use Rattle.query_cells.specs.Answers.{IsWeakAtEither}
-use Rattle.map_cargo.specs.StepLaws.{more_then}
-use Rattle.query_cells.proofs.Tries.{looks_in_order, order_then}
-use Rattle.query_cells.proofs.Trails.{alike_treads, weak_either_here, both_treads}
+use Rattle.std.proofs.Common.{refl, inl, inr, [], ◌∷◌}
+use Rattle.hall.specs.declared.view.View.{View}
+use Rattle.hall.specs.Passes.{view, cargo_of, shape_of}
+use Rattle.lock_model.specs.declared.model.Mode.TheVariants.{Shared}
+use Rattle.query_rules.specs.declared.query.Query.TheVariants as query
+use Rattle.query_rules.specs.declared.query.Said.TheVariants.{Same}
+use Rattle.map_cargo.specs.declared.entry.Part.{Part}
+use Rattle.map_cargo.specs.Steps.{IsIdle}
+use Rattle.query_cells.specs.Answers.{Tells}
+use Rattle.query_cells.specs.Two.{IsAtCells}
+use Rattle.query_cells.proofs.AskingTwo.{both_in_order, both_tell, both_tread}
+use Rattle.query_cells.proofs.Pairs.{idle_alike, is_held, may_both, may_same_both, none_for_both, two_for, two_read}
+use Rattle.query_cells.proofs.Trails.{alike_treads}
+use Rattle.query_cells.proofs.Tries.{same_in_both}
 use Rattle.query_cells.proofs.two.ask_both.Goals as goal
+
+-- two cells that are the same one
+pub tell_read-requires-clause-may : goal.tell_read-requires-clause-may
+tell_read-requires-clause-may g c = may_same_both (cargo_of c.args.hall.now) (view c.take_two.new.pass) c.args.index c.args.first c.args.second c.args.key c.in_default.ensures.took.0
+
+pub tell_read-requires-clause-holds : goal.tell_read-requires-clause-holds
+tell_read-requires-clause-holds g c = none_for_both (view c.take_two.new.pass) c.args.first c.args.second c.args.key Same c.in_default.ensures.took.0
+
+-- two that differ
+pub look_up_two-said-requires-clause-held : goal.look_up_two-said-requires-clause-held
+look_up_two-said-requires-clause-held g c = let h = c.in-Ok.ensures.took.guarded.holds in (is_held _ Shared (h.each c.args.first (inl refl)), is_held _ Shared (h.each c.args.second (inr (inl refl))))
+
+pub look_up_two-said-requires-clause-settled : goal.look_up_two-said-requires-clause-settled
+look_up_two-said-requires-clause-settled g c = let h = c.in-Ok.ensures.took.guarded.holds in (h.settled c.args.first (inl refl), h.settled c.args.second (inr (inl refl)))
+
+pub leave_two-requires-clause-held : goal.leave_two-requires-clause-held
+leave_two-requires-clause-held g c =
+    let said = c.look_up_two-said.ensures in let told = c.tell_read-reply.ensures in (
+      c.args.first,
+      c.args.second,
+      Shared,
+      two_read (shape_of c.args.hall.now) c.args.first c.args.second c.in-Ok.guards (view c.take_two.new.pass) (view c.look_up_two-said.new.pass) (view c.tell_read-reply.new.pass) (query.Both c.args.first c.args.second c.args.key) c.look_up_two-said.result
+          c.in-Ok.ensures.took.guarded said.words said.part told.pass.1 told.follows said.reads,
+    )
 
 pub returns-clause-tells : goal.returns-clause-tells
 returns-clause-tells g c =
-    let m = cargo_of c.args.hall.now in let v = view c.args.pass.now in let a = view c.hold_two_for_reading.new.pass in let u = view c.look_up_two-said.new.pass in let t = view c.tell_read-reply.new.pass in let w = view c.leave_two_reading.new.pass in
-    tells_after m v u w c.args.index _ c.tell_read-reply.result (nothing_then v a u c.hold_two_for_reading.ensures.nothing (words_tell_nothing a u c.look_up_two-said.ensures.words)) (tells_then m u t w c.args.index _ c.tell_read-reply.result c.tell_read-reply.ensures.tells c.leave_two_reading.ensures.left c.leave_two_reading.ensures.back)
-
-pub returns-clause-trail : goal.returns-clause-trail
-returns-clause-trail g c =
-    let v = view c.args.pass.now in let a = view c.hold_two_for_reading.new.pass in let u = view c.look_up_two-said.new.pass in let t = view c.tell_read-reply.new.pass in let w = view c.leave_two_reading.new.pass in
-    let low = c.in_order-low.result.0 in let high = c.in_order-low.result.1 in let may = IsWeakAtEither low high in let held = c.hold_two_for_reading in
-    both_treads c.args.first c.args.second c.args.key low high v w c.if-first-second.false c.in_order-low.ensures.both
-    (treads_then may v a w held.ensures.trail
-    (treads_then may a u w (alike_treads may a u c.look_up_two-said.ensures.words.alike)
-    (treads_then may u t w (alike_treads may u t c.tell_read-reply.ensures.pass.1)
-    (weak_either_here t w held.result.0.guard.lock held.result.1.guard.lock low high held.ensures.cells.0 held.ensures.cells.1 c.leave_two_reading.ensures.trail))))
+    let said = c.look_up_two-said.ensures in let told = c.tell_read-reply.ensures in let left = c.leave_two.ensures in
+    both_tell (cargo_of c.args.hall.now) (shape_of c.args.hall.now) c.args.first c.args.second Shared c.in-Ok.guards (query.Both c.args.first c.args.second c.args.key) (view c.args.pass.now) (view c.take_two.new.pass) (view c.look_up_two-said.new.pass) (view c.tell_read-reply.new.pass) (view c.leave_two.new.pass)
+    c.in-Ok.ensures.took said.words told.pass.1.steps left.back refl c.args.index c.tell_read-reply.result told.tells left.left
 
 pub returns-clause-order : goal.returns-clause-order
 returns-clause-order g c =
-    let v = view c.args.pass.now in let a = view c.hold_two_for_reading.new.pass in let u = view c.look_up_two-said.new.pass in let t = view c.tell_read-reply.new.pass in let w = view c.leave_two_reading.new.pass in let order = c.in_order-low.ensures in let back = c.leave_two_reading.ensures.back in
-    looks_in_order v w c.args.first c.args.second c.in_order-low.result.0 c.in_order-low.result.1 order.both order.low
-    (order_then v a w c.in_order-low.result.0 c.in_order-low.result.1 c.hold_two_for_reading.ensures.order (more_then a u w c.look_up_two-said.ensures.words.alike.steps (more_then u t w c.tell_read-reply.ensures.pass.1.steps record { added = back.added; stand = back.stand })))
-    c.args.key
+    let said = c.look_up_two-said.ensures in let told = c.tell_read-reply.ensures in let left = c.leave_two.ensures in
+    both_in_order (cargo_of c.args.hall.now) (shape_of c.args.hall.now) c.args.first c.args.second Shared c.in-Ok.guards (query.Both c.args.first c.args.second c.args.key) (view c.args.pass.now) (view c.take_two.new.pass) (view c.look_up_two-said.new.pass) (view c.tell_read-reply.new.pass) (view c.leave_two.new.pass)
+    c.in-Ok.ensures.took said.words told.pass.1.steps left.back refl
+
+pub returns-clause-trail : goal.returns-clause-trail
+returns-clause-trail g c =
+    let said = c.look_up_two-said.ensures in let told = c.tell_read-reply.ensures in let left = c.leave_two.ensures in let u = view c.look_up_two-said.new.pass in let t = view c.tell_read-reply.new.pass in
+    both_tread (cargo_of c.args.hall.now) (shape_of c.args.hall.now) c.args.first c.args.second Shared c.in-Ok.guards (query.Both c.args.first c.args.second c.args.key) (view c.args.pass.now) (view c.take_two.new.pass) u t (view c.leave_two.new.pass)
+    c.in-Ok.ensures.took said.words told.pass.1.steps left.back refl (λ ne. absurd (ne refl)) (alike_treads (IsAtCells (c.args.first ∷ c.args.second ∷ []) Shared) u t told.pass.1) left.trail

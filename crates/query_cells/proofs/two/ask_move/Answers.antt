@@ -1,40 +1,57 @@
-use Rattle.hall.specs.Passes.{view, cargo_of}
-use Rattle.hall.specs.declared.view.Standing.TheVariants.{Exclusive}
+use Rattle.std.proofs.Common.{refl, inl, inr, [], ◌∷◌}
+use Rattle.hall.specs.declared.view.View.{View}
+use Rattle.hall.specs.Passes.{view, cargo_of, shape_of}
+use Rattle.lock_model.specs.declared.model.Mode.TheVariants.{Exclusive}
 use Rattle.query_rules.specs.declared.query.Query.TheVariants as query
-use Rattle.query_cells.proofs.Pairs.{back_order, either_order, named_so, two_told, words_tell_nothing}
-use Rattle.query_cells.proofs.Replies.{nothing_then, tells_after, tells_then}
-use Rattle.hall.specs.Treading.{treads_then}
-use Rattle.query_cells.specs.Answers.{IsAtEither}
-use Rattle.map_cargo.specs.StepLaws.{more_then}
-use Rattle.query_cells.proofs.Tries.{moves_in_order, order_then}
-use Rattle.query_cells.proofs.Trails.{alike_treads, stays_treads, either_here, move_treads}
+use Rattle.query_rules.specs.declared.query.Said.TheVariants.{Same}
+use Rattle.map_cargo.specs.declared.entry.Part.{Part}
+use Rattle.map_cargo.specs.Steps.{IsIdle}
+use Rattle.query_cells.specs.Answers.{Tells}
+use Rattle.query_cells.specs.Two.{IsAtCells}
+use Rattle.query_cells.proofs.AskingTwo.{both_in_order, both_tell, both_tread}
+use Rattle.query_cells.proofs.Pairs.{idle_alike, may_move, may_same_move, none_for_move, two_told}
+use Rattle.query_cells.proofs.Trails.{alike_treads, stays_treads}
+use Rattle.query_cells.proofs.Tries.{same_in_move}
 use Rattle.query_cells.proofs.two.ask_move.Goals as goal
 
-pub leave_two_writing-requires-clause-held : goal.leave_two_writing-requires-clause-held
-leave_two_writing-requires-clause-held g c =
-    let order = c.in_order-low.ensures.both in let hold = c.hold_two_for_writing.ensures in let said = c.shift-said.ensures in let told = c.tell-reply.ensures in
-    let two = either_order _ _ _ c.args.from c.args.to Exclusive order hold.held in
-    let after = two_told (view c.hold_two_for_writing.new.pass) (view c.shift-said.new.pass) (view c.tell-reply.new.pass) c.args.from c.args.to (query.Move c.args.from c.args.to c.args.key c.args.n) c.shift-said.result two said.words told.pass.1 told.follows said.from said.to in
-    named_so _ _ _ _ _ Exclusive hold.cells.0 hold.cells.1 (back_order _ _ _ c.args.from c.args.to Exclusive order after)
+-- two cells that are the same one
+pub tell_read-requires-clause-may : goal.tell_read-requires-clause-may
+tell_read-requires-clause-may g c = may_same_move (cargo_of c.args.hall.now) (view c.take_two.new.pass) c.args.index c.args.from c.args.to c.args.key c.args.n c.in_default.ensures.took.0
+
+pub tell_read-requires-clause-holds : goal.tell_read-requires-clause-holds
+tell_read-requires-clause-holds g c = none_for_move (view c.take_two.new.pass) c.args.from c.args.to c.args.key c.args.n Same c.in_default.ensures.took.0
+
+-- two that differ
+pub shift-said-requires-clause-held : goal.shift-said-requires-clause-held
+shift-said-requires-clause-held g c = let h = c.in-Ok.ensures.took.guarded.holds in (h.each c.args.from (inl refl), h.each c.args.to (inr (inl refl)))
+
+pub shift-said-requires-clause-settled : goal.shift-said-requires-clause-settled
+shift-said-requires-clause-settled g c = let h = c.in-Ok.ensures.took.guarded.holds in (h.settled c.args.from (inl refl), h.settled c.args.to (inr (inl refl)))
+
+pub leave_two-requires-clause-held : goal.leave_two-requires-clause-held
+leave_two-requires-clause-held g c =
+    let said = c.shift-said.ensures in let told = c.tell-reply.ensures in (
+      c.args.from,
+      c.args.to,
+      Exclusive,
+      two_told (shape_of c.args.hall.now) c.args.from c.args.to c.in-Ok.guards (view c.take_two.new.pass) (view c.shift-said.new.pass) (view c.tell-reply.new.pass) (query.Move c.args.from c.args.to c.args.key c.args.n) c.shift-said.result
+          c.in-Ok.ensures.took.guarded said.words told.pass.1 told.follows said.from said.to,
+    )
 
 pub returns-clause-tells : goal.returns-clause-tells
 returns-clause-tells g c =
-    let m = cargo_of c.args.hall.now in let v = view c.args.pass.now in let a = view c.hold_two_for_writing.new.pass in let u = view c.shift-said.new.pass in let t = view c.tell-reply.new.pass in let w = view c.leave_two_writing.new.pass in
-    tells_after m v u w c.args.index _ c.tell-reply.result (nothing_then v a u c.hold_two_for_writing.ensures.nothing (words_tell_nothing a u c.shift-said.ensures.words)) (tells_then m u t w c.args.index _ c.tell-reply.result c.tell-reply.ensures.tells c.leave_two_writing.ensures.left c.leave_two_writing.ensures.back)
-
-pub returns-clause-trail : goal.returns-clause-trail
-returns-clause-trail g c =
-    let v = view c.args.pass.now in let a = view c.hold_two_for_writing.new.pass in let u = view c.shift-said.new.pass in let t = view c.tell-reply.new.pass in let w = view c.leave_two_writing.new.pass in
-    let low = c.in_order-low.result.0 in let high = c.in_order-low.result.1 in let may = IsAtEither low high in let held = c.hold_two_for_writing in
-    move_treads c.args.from c.args.to c.args.key c.args.n low high v w c.if-from-to.false c.in_order-low.ensures.both
-    (treads_then may v a w held.ensures.trail
-    (treads_then may a u w (alike_treads may a u c.shift-said.ensures.words.alike)
-    (treads_then may u t w (stays_treads may u t c.tell-reply.ensures.pass.1)
-    (either_here t w held.result.0.guard.lock held.result.1.guard.lock low high held.ensures.cells.0 held.ensures.cells.1 c.leave_two_writing.ensures.trail))))
+    let said = c.shift-said.ensures in let told = c.tell-reply.ensures in let left = c.leave_two.ensures in
+    both_tell (cargo_of c.args.hall.now) (shape_of c.args.hall.now) c.args.from c.args.to Exclusive c.in-Ok.guards (query.Move c.args.from c.args.to c.args.key c.args.n) (view c.args.pass.now) (view c.take_two.new.pass) (view c.shift-said.new.pass) (view c.tell-reply.new.pass) (view c.leave_two.new.pass)
+    c.in-Ok.ensures.took said.words told.pass.1.steps left.back refl c.args.index c.tell-reply.result told.tells left.left
 
 pub returns-clause-order : goal.returns-clause-order
 returns-clause-order g c =
-    let v = view c.args.pass.now in let a = view c.hold_two_for_writing.new.pass in let u = view c.shift-said.new.pass in let t = view c.tell-reply.new.pass in let w = view c.leave_two_writing.new.pass in let order = c.in_order-low.ensures in let back = c.leave_two_writing.ensures.back in
-    moves_in_order v w c.args.from c.args.to c.in_order-low.result.0 c.in_order-low.result.1 order.both order.low
-    (order_then v a w c.in_order-low.result.0 c.in_order-low.result.1 c.hold_two_for_writing.ensures.order (more_then a u w c.shift-said.ensures.words.alike.steps (more_then u t w c.tell-reply.ensures.pass.1.steps record { added = back.added; stand = back.stand })))
-    c.args.key c.args.n
+    let said = c.shift-said.ensures in let told = c.tell-reply.ensures in let left = c.leave_two.ensures in
+    both_in_order (cargo_of c.args.hall.now) (shape_of c.args.hall.now) c.args.from c.args.to Exclusive c.in-Ok.guards (query.Move c.args.from c.args.to c.args.key c.args.n) (view c.args.pass.now) (view c.take_two.new.pass) (view c.shift-said.new.pass) (view c.tell-reply.new.pass) (view c.leave_two.new.pass)
+    c.in-Ok.ensures.took said.words told.pass.1.steps left.back refl
+
+pub returns-clause-trail : goal.returns-clause-trail
+returns-clause-trail g c =
+    let said = c.shift-said.ensures in let told = c.tell-reply.ensures in let left = c.leave_two.ensures in let u = view c.shift-said.new.pass in let t = view c.tell-reply.new.pass in
+    both_tread (cargo_of c.args.hall.now) (shape_of c.args.hall.now) c.args.from c.args.to Exclusive c.in-Ok.guards (query.Move c.args.from c.args.to c.args.key c.args.n) (view c.args.pass.now) (view c.take_two.new.pass) u t (view c.leave_two.new.pass)
+    c.in-Ok.ensures.took said.words told.pass.1.steps left.back refl (λ ne. refl) (stays_treads (IsAtCells (c.args.from ∷ c.args.to ∷ []) Exclusive) u t told.pass.1) left.trail

@@ -10,8 +10,8 @@ use Rattle.query_cells.proofs.two.shift.Goals as goal
 pub returns-in_default-put-clause-to : goal.returns-in_default-put-clause-to
 returns-in_default-put-clause-to c =
     let m : PlainMap = plain_of (view c.args.pass.now).part c.args.to in let same = c.get-had.ensures.part ∙ c.get-has.ensures.part in
-    let t = c.in_default-put.ensures.put m (subst (λ (p : Part). Means (words_of p c.args.to) m) (sym same) c.requires.held.second_settled) in
-    subst (λ (p : Part). Means (words_of p c.args.to) m) (sym (t.3 ∙ same)) c.requires.held.second_settled
+    let t = c.in_default-put.ensures.put m (subst (λ (p : Part). Means (words_of p c.args.to) m) (sym same) c.requires.settled.1) in
+    subst (λ (p : Part). Means (words_of p c.args.to) m) (sym (t.3 ∙ same)) c.requires.settled.1
 
 pub returns-clause-words : goal.returns-clause-words
 returns-clause-words c =
