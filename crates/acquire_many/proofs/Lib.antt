@@ -3,4 +3,4 @@ mod Counting
 mod GivingUp
 mod Pairs
 mod Patience
-mod Taking
+pub mod Taking

@@ -3,6 +3,7 @@ use Rattle.std.specs.Prelude.{◌≡◌, ℕ, Bool, true, false, List, [], ◌�
 use Rattle.std.proofs.Common.{refl, sym, ap, ◌∙◌, subst}
 use Rattle.std.proofs.lemmas.List.Elements.{All-nil, All-cons}
 use Rattle.hall.specs.declared.cargo.CargoRule.{Ghosts}
+use Rattle.hall.specs.declared.guards.Form.{Form}
 use Rattle.hall.specs.declared.guards.TryFault.{TryFault}
 use Rattle.hall.specs.declared.view.Kind.{Kind}
 use Rattle.hall.specs.declared.view.Kind.TheVariants as kinds
@@ -12,9 +13,11 @@ use Rattle.hall.specs.declared.view.StepEntry.{StepEntry}
 use Rattle.hall.specs.declared.view.View.{View}
 use Rattle.hall.specs.Views.{after_look, after_step, entry_of, mode_of, standing}
 use Rattle.apply_deferred.specs.SweepLaws.{AllSweeping, is_sweeping, same_mode, sweep_goes}
-use Rattle.shared_mutex.specs.Tries.{AddsSteps, AnnouncesAtLast, EntersAtLast, HoldsAtLast, IsLook, IsPatientTry, OnlyLooked, is_retract}
+use Rattle.shared_mutex.specs.Tries.{AddsSteps, AnnouncesAtLast, HoldsAtLast, IsLook, IsPatientTry, OnlyLooked, is_retract}
 use Rattle.shared_mutex.specs.TryLaws.{adds_as, adds_then, looked_once, looked_then, stands_still}
+use Rattle.shared_mutex.specs.Entering.{enters_last, enters_patiently}
 use Rattle.upgrade_mode.specs.Tries.{EntersUpgradeAtLast}
+use Rattle.acquire_many.specs.Met.{EntersAtLastBy}
 
 sweeping_patient : (k : Kind) → is_sweeping k ≡ true → is_retract k ≡ false
 sweeping_patient k e = elim k as (λ z. is_sweeping z ≡ true → is_retract z ≡ false) [ kinds.Retract ↦ λ h. absurd (cc) | kinds.UpRetract ↦ λ h. absurd (cc) | _ ↦ λ h. refl ] e
@@ -22,7 +25,7 @@ sweeping_patient k e = elim k as (λ z. is_sweeping z ≡ true → is_retract z 
 -- a pass that holds no mode at the lock went on from u, which has the number of v
 module _ {P : Type 0} (v : View P) (lock : ℕ) (u w : View P) (same : u.number ≡ v.number) (free : mode_of (standing u lock) ≡ None) where
   looks : OnlyLooked u lock w → AddsSteps (IsPatientTry v lock) u w
-  looks looked = adds_as (IsLook u lock) (IsPatientTry v lock) u w (λ e p. ((p.0 ∙ same, p.5, ap mode_of p.2 ∙ free), p.4)) looked.steps
+  looks looked = adds_as (IsLook u lock) (IsPatientTry v lock) u w (λ e p. ((p.0 ∙ same, p.1, p.2 ∙ free), p.3)) looked.steps
 
   step : (kind : Kind) (word : ℕ) (won : Bool) (y : Standing) (part : P) → is_retract kind ≡ false → w ≡ after_step u kind lock word won y part → AddsSteps (IsPatientTry v lock) u w
   step kind word won y part patient is =
@@ -46,8 +49,11 @@ module _ {P : Type 0} where
   all_patient v lock number (e ∷ es) same h = All-cons (IsPatientTry v lock) e es ((h.0 ∙ same, h.1, h.3), sweeping_patient e.kind h.2) (all_patient v lock number es same h.4)
 
 module _ {C P : Type 0} (g : Ghosts C P) (v w : View P) (lock : ℕ) (away : standing v lock ≡ Away) (faults : List TryFault) where
-  pub patient_reader : EntersAtLast g v lock faults w → AddsSteps (IsPatientTry v lock) v w
-  patient_reader e = tries_step v e.0 w lock kinds.Enter e.3.0 _ e.3.2.0.1 (ap mode_of away) e.2 refl e.3.2.0.3
+  pub patient_reader : (form : Form) → EntersAtLastBy g v lock form faults w → AddsSteps (IsPatientTry v lock) v w
+  patient_reader form e =
+      let u : View P = e.0 in let still : standing u lock ≡ Away = stands_still v u lock e.2 ∙ away in
+      adds_then (IsPatientTry v lock) v u w (looks v lock v u refl (ap mode_of away) e.2)
+      (adds_as (IsPatientTry u lock) (IsPatientTry v lock) u w (λ x p. ((p.0.0 ∙ e.2.number, p.0.1, p.0.2), p.1)) (enters_patiently g u w lock still (enters_last g u w lock still (form, e.3))))
 
   pub patient_upgrader : EntersUpgradeAtLast g v lock faults w → AddsSteps (IsPatientTry v lock) v w
   patient_upgrader e = tries_step v e.0 w lock kinds.UpgradeIn e.3.0 _ e.3.2.0.1 (ap mode_of away) e.2 refl e.3.2.0.3

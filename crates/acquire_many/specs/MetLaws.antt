@@ -12,29 +12,31 @@ use Rattle.hall.specs.declared.view.Footprint.{Footprint}
 use Rattle.hall.specs.declared.view.Kind.TheVariants as kinds
 use Rattle.hall.specs.declared.view.Standing.{Standing}
 use Rattle.hall.specs.declared.view.Standing.TheVariants as stand
-use Rattle.hall.specs.Plays.{lowered_part}
 use Rattle.hall.specs.declared.view.View.{View}
 use Rattle.hall.specs.Treading.{IsAt, IsBetween, IsWeakAt, Treads, treads_as, treads_none, treads_step, treads_then}
 use Rattle.hall.specs.Views.{after_look, standing}
 use Rattle.apply_deferred.specs.SweepLaws.{sweep_goes}
 use Rattle.shared_mutex.specs.Acquiring.{FoundReaders}
 use Rattle.shared_mutex.specs.Tries.{WritesAtLast}
-use Rattle.shared_mutex.specs.TrailLaws.{enters_treads, gives_back_treads, looked_at, refuses_exclusive_treads, refuses_shared_treads, releases_treads, takes_exclusive_treads, takes_shared_treads, writes_treads}
-use Rattle.shared_mutex.specs.TryLaws.{looked_once, reader_looked, writer_looked}
+use Rattle.shared_mutex.specs.TrailLaws.{enters_treads, leaves_shared_treads, looked_at, refuses_exclusive_treads, refuses_shared_treads, releases_treads, takes_exclusive_treads, takes_shared_treads, writes_treads}
+use Rattle.shared_mutex.specs.TryLaws.{looked_once, reader_looked, stands_still, writer_looked}
+use Rattle.shared_mutex.specs.Entering.{enters_last, leaves_lock}
 use Rattle.upgrade_mode.specs.Holding.{EntersUpgrade}
+use Rattle.acquire_many.specs.declared.guards.How.TheVariants as hows
 use Rattle.upgrade_mode.specs.Tries.{upgrader_looked}
-use Rattle.acquire_many.specs.Met.{HeldAll, IsFor, Learns, Meets, Refuses, Returns, Takes, standing_for}
-use Rattle.acquire_many.specs.Wants.{Want, want_at}
+use Rattle.acquire_many.specs.Met.{HeldAll, IsFor, Learns, Meets, Refuses, Returns, Takes, stands_for}
+use Rattle.acquire_many.specs.Wants.{Hold, Want, want_at, want_of}
 
--- a hold that stands at a position is of the want there
-pub some_same : (a b : Want) → Some a ≡ Some b → a ≡ b
+pub some_same : (a b : Hold) → Some a ≡ Some b → a ≡ b
 some_same a b e = cc
 
-pub no_some : (x : Want) → None ≡ Some x → ⊥
+pub no_some : (x : Hold) → None ≡ Some x → ⊥
 no_some x e = absurd (cc)
 
-pub of_held : (wants : List Want) (holds : List (Option Want)) → HeldAll wants holds → (k : ℕ) (x : Want) → slice_index_or holds k None ≡ Some x → (k < length wants) × (want_at wants k ≡ x)
-of_held wants holds h k x at = ⊎_elim (λ near. (near, some_same (want_at wants k) x (sym (h.held k near) ∙ at))) (λ far. absurd (no_some x (sym (h.none k far) ∙ at))) (cases_lt k (length wants))
+-- a hold that stands at a position is of the want there
+pub of_held : (wants : List Want) (holds : List (Option Hold)) → HeldAll wants holds → (k : ℕ) (x : Hold) → slice_index_or holds k None ≡ Some x → (k < length wants) × (want_of x ≡ want_at wants k)
+of_held wants holds h k x at =
+    ⊎_elim (λ near. let is = h.held k near in (near, subst (λ (y : Hold). want_of y ≡ want_at wants k) (some_same is.0 x (sym is.1 ∙ at)) is.2)) (λ far. absurd (no_some x (sym (h.none k far) ∙ at))) (cases_lt k (length wants))
 
 no_both : (b : Bool) → b ≡ false → b ≡ true → ⊥
 no_both b f t = absurd (cc)
@@ -57,15 +59,15 @@ module _ {C P : Type 0} (g : Ghosts C P) where
       (treads_as (IsBetween lock (standing u lock) stand.Upgrade) (IsAt lock) u w (λ m p. p.0) (treads_step u w kinds.UpgradeIn lock t.0 true stand.Upgrade got.1 got.3))
 
   -- footprints of a want that was met
-  pub meets_treads : (v w : View P) (want : Want) → standing v want.0 ≡ stand.Away → Meets g v want w → Treads (IsFor want) v w
-  meets_treads v w (lock, modes.Shared) away t = weak_for lock v w (enters_treads g v w lock t.0 away t.1)
-  meets_treads v w (lock, modes.Upgrade) away t = at_upgrade lock v w (treads_then (IsAt lock) v t.1.0 w (looked_at v t.1.0 lock t.1.2) (upgrade_treads t.1.0 w lock t.1.3))
-  meets_treads v w (lock, modes.Exclusive) away t = at_exclusive lock v w (writes_treads g v w lock t.0 t.1 t.2)
+  pub meets_treads : (v w : View P) (hold : Hold) → standing v hold.0 ≡ stand.Away → Meets g v hold w → Treads (IsFor (want_of hold)) v w
+  meets_treads v w (lock, hows.Shared form) away t = weak_for lock v w (enters_treads g v w lock t.0 away (t.1.0, t.1.1, t.1.2, (form, t.1.3)))
+  meets_treads v w (lock, hows.Upgrade) away t = at_upgrade lock v w (treads_then (IsAt lock) v t.1.0 w (looked_at v t.1.0 lock t.1.2) (upgrade_treads t.1.0 w lock t.1.3))
+  meets_treads v w (lock, hows.Exclusive) away t = at_exclusive lock v w (writes_treads g v w lock t.0 t.1 t.2)
 
-  pub takes_treads : (v w : View P) (want : Want) → standing v want.0 ≡ stand.Away → Takes g v want w → Treads (IsFor want) v w
-  takes_treads v w (lock, modes.Shared) away t = weak_for lock v w (takes_shared_treads g v w lock away t)
-  takes_treads v w (lock, modes.Upgrade) away t = at_upgrade lock v w (upgrade_treads v w lock t)
-  takes_treads v w (lock, modes.Exclusive) away t = at_exclusive lock v w (takes_exclusive_treads g v w lock t)
+  pub takes_treads : (v w : View P) (hold : Hold) → standing v hold.0 ≡ stand.Away → Takes g v hold w → Treads (IsFor (want_of hold)) v w
+  takes_treads v w (lock, hows.Shared form) away t = weak_for lock v w (takes_shared_treads g v w lock away (form, t))
+  takes_treads v w (lock, hows.Upgrade) away t = at_upgrade lock v w (upgrade_treads v w lock t)
+  takes_treads v w (lock, hows.Exclusive) away t = at_exclusive lock v w (takes_exclusive_treads g v w lock t)
 
   -- what the pass learnt by it
   learnt_after : (v u w : View P) (lock : ℕ) → u.part ≡ v.part → Learns g lock u w → Learns g lock v w
@@ -74,10 +76,10 @@ module _ {C P : Type 0} (g : Ghosts C P) where
   learnt_by : (u w : View P) (lock : ℕ) (ws : List ℕ) (part : P) → g.gains lock ws u.part part → w.part ≡ part → Learns g lock u w
   learnt_by u w lock ws part gain is = (ws, subst (λ (p : P). g.gains lock ws u.part p) (sym is) gain)
 
-  pub takes_learns : (v w : View P) (want : Want) → Takes g v want w → Learns g want.0 v w
-  takes_learns v w (lock, modes.Shared) t = let got = t.2.0 in learnt_by v w lock got.0 got.1 got.2 (ap (λ (z : View P). z.part) got.3)
-  takes_learns v w (lock, modes.Upgrade) t = let got = t.2.0 in learnt_by v w lock got.0 got.1 got.2 (ap (λ (z : View P). z.part) got.3)
-  takes_learns v w (lock, modes.Exclusive) t =
+  pub takes_learns : (v w : View P) (hold : Hold) → standing v hold.0 ≡ stand.Away → Takes g v hold w → Learns g hold.0 v w
+  takes_learns v w (lock, hows.Shared form) away t = let e = enters_last g v w lock away (form, t) in learnt_after v e.before w lock e.tried.part (learnt_by e.before w lock e.words e.part e.gains (ap (λ (z : View P). z.part) e.is))
+  takes_learns v w (lock, hows.Upgrade) away t = let got = t.2.0 in learnt_by v w lock got.0 got.1 got.2 (ap (λ (z : View P). z.part) got.3)
+  takes_learns v w (lock, hows.Exclusive) away t =
       let u = t.0 in let z = t.2 in let got = t.5.0 in
       learnt_after v z w lock ((sweep_goes g lock v.shape.slots t.3 u z t.4).part ∙ ap (λ (x : View P). x.part) t.1.2.0) (learnt_by z w lock got.0 got.1 got.2 (ap (λ (x : View P). x.part) got.3))
 
@@ -87,24 +89,24 @@ module _ {C P : Type 0} (g : Ghosts C P) where
       let swept = (sweep_goes g lock v.shape.slots won.2.0 b a won.2.1).part in
       learnt_after v z w lock (ended.2.part ∙ swept ∙ ap (λ (x : View P). x.part) won.1.2.0 ∙ began.2.part) (learnt_by z w lock got.0 got.1 got.2 (ap (λ (x : View P). x.part) got.3))
 
-  pub meets_learns : (v w : View P) (want : Want) → Meets g v want w → Learns g want.0 v w
-  meets_learns v w (lock, modes.Shared) t = learnt_after v t.1.0 w lock t.1.2.part (takes_learns t.1.0 w (lock, modes.Shared) t.1.3)
-  meets_learns v w (lock, modes.Upgrade) t = learnt_after v t.1.0 w lock t.1.2.part (takes_learns t.1.0 w (lock, modes.Upgrade) t.1.3)
-  meets_learns v w (lock, modes.Exclusive) t = written_learns v w lock t.0 t.1 t.2
+  pub meets_learns : (v w : View P) (hold : Hold) → standing v hold.0 ≡ stand.Away → Meets g v hold w → Learns g hold.0 v w
+  meets_learns v w (lock, hows.Shared form) away t = let u = t.1.0 in learnt_after v u w lock t.1.2.part (takes_learns u w (lock, hows.Shared form) (stands_still v u lock t.1.2 ∙ away) t.1.3)
+  meets_learns v w (lock, hows.Upgrade) away t = let u = t.1.0 in learnt_after v u w lock t.1.2.part (takes_learns u w (lock, hows.Upgrade) (stands_still v u lock t.1.2 ∙ away) t.1.3)
+  meets_learns v w (lock, hows.Exclusive) away t = written_learns v w lock t.0 t.1 t.2
 
   -- a hold that was given back: its footprints, and what the part says of other locks
-  pub returns_treads : (v w : View P) (hold : Want) → standing v hold.0 ≡ standing_for hold.1 → Returns g v hold w → Treads (IsFor hold) v w
-  returns_treads v w (lock, modes.Shared) held t = weak_for lock v w (gives_back_treads g v w lock t.0 held t.1)
-  returns_treads v w (lock, modes.Upgrade) held t = at_upgrade lock v w (treads_as (IsBetween lock (standing v lock) stand.Away) (IsAt lock) v w (λ m p. p.0) (treads_step v w kinds.UpgradeOut lock t.0 true stand.Away (g.lowered lock None v.part) t.1.0))
-  returns_treads v w (lock, modes.Exclusive) held t = at_exclusive lock v w (releases_treads g v w lock t)
+  pub returns_treads : (v w : View P) (hold : Hold) → hold.0 < length v.standings → standing v hold.0 ≡ stands_for hold.1 → Returns g v hold w → Treads (IsFor (want_of hold)) v w
+  returns_treads v w (lock, hows.Shared form) near held t = weak_for lock v w (leaves_shared_treads g v w lock form near held t)
+  returns_treads v w (lock, hows.Upgrade) near held t = at_upgrade lock v w (treads_as (IsBetween lock (standing v lock) stand.Away) (IsAt lock) v w (λ m p. p.0) (treads_step v w kinds.UpgradeOut lock t.0 true stand.Away (g.lowered lock None v.part) t.1.0))
+  returns_treads v w (lock, hows.Exclusive) near held t = at_exclusive lock v w (releases_treads g v w lock t)
 
   left_so : (v w : View P) (lock other : ℕ) → other ≢ lock → w.part ≡ g.lowered lock None v.part → g.settled other v.part → g.settled other w.part
   left_so v w lock other ne is was = subst (λ (p : P). g.settled other p) (sym is) (g.lowered_leaves lock other None v.part ne was)
 
-  pub returns_leave : (v w : View P) (hold : Want) → standing v hold.0 ≡ standing_for hold.1 → Returns g v hold w → (other : ℕ) → other ≢ hold.0 → g.settled other v.part → g.settled other w.part
-  returns_leave v w (lock, modes.Shared) held t other ne was = left_so v w lock other ne (ap (λ (z : View P). z.part) t.1.0 ∙ ap (λ (x : Standing). lowered_part g x lock v.part) held) was
-  returns_leave v w (lock, modes.Upgrade) held t other ne was = left_so v w lock other ne (ap (λ (z : View P). z.part) t.1.0) was
-  returns_leave v w (lock, modes.Exclusive) held t other ne was = left_so v w lock other ne (ap (λ (z : View P). z.part) t.1) was
+  pub returns_leave : (v w : View P) (hold : Hold) → hold.0 < length v.standings → standing v hold.0 ≡ stands_for hold.1 → Returns g v hold w → (other : ℕ) → other ≢ hold.0 → g.settled other v.part → g.settled other w.part
+  returns_leave v w (lock, hows.Shared form) near held t other ne was = left_so v w lock other ne (leaves_lock g v w lock near form held t).part was
+  returns_leave v w (lock, hows.Upgrade) near held t other ne was = left_so v w lock other ne (ap (λ (z : View P). z.part) t.1.0) was
+  returns_leave v w (lock, hows.Exclusive) near held t other ne was = left_so v w lock other ne (ap (λ (z : View P). z.part) t.1) was
 
   -- a try that was refused: its footprints, and that the pass learnt nothing
   pub refuses_treads : (v w : View P) (want : Want) (fault : TryFault) → standing v want.0 ≡ stand.Away → Refuses g v want w fault → Treads (IsFor want) v w

@@ -3,10 +3,24 @@ use Rattle.std.specs.Prelude.{◌≡◌, ◌≢◌, ℕ, ◌<◌, ◌≤◌, Lis
 use Rattle.lock_model.specs.declared.model.Mode.{Mode}
 use Rattle.lock_model.specs.declared.model.Mode.TheVariants as modes
 use Rattle.lock_model.specs.Locks.{Has}
+use Rattle.acquire_many.specs.declared.guards.How.{How}
+use Rattle.acquire_many.specs.declared.guards.How.TheVariants as hows
 
 -- a lock and the mode in which it is wanted
 abbrev pub Want : Type 0
 Want = ℕ × Mode
+
+-- a lock and how it is held, and the want that it meets
+abbrev pub Hold : Type 0
+Hold = ℕ × How
+
+abbrev pub mode_in : How → Mode
+mode_in (hows.Shared form) = modes.Shared
+mode_in hows.Upgrade = modes.Upgrade
+mode_in hows.Exclusive = modes.Exclusive
+
+abbrev pub want_of : Hold → Want
+want_of x = (x.0, mode_in x.1)
 
 abbrev pub want_at : List Want → ℕ → Want
 want_at wants k = slice_index_or wants k (0, modes.Shared)

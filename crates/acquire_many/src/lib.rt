@@ -17,5 +17,5 @@ mod tests;
 mod waits;
 mod wants;
 
-pub use guards::{Guards, MANY, OneGuard};
+pub use guards::{Guards, How, MANY, OneGuard};
 pub use many::{ManyFault, SameCell, lock_many, try_many, unlock_many};

@@ -1,6 +1,7 @@
 //! What no clause says: that the words are those that are meant, and that calls succeed where nobody is in the way.
 ghost use Rattle.std.specs.Prelude.{◌≡◌, ◌<◌};
 ghost use Rattle.hall.specs.Passes.{view, IsPassOf, shape_of};
+ghost use Rattle.hall.specs.Slotting.{HasNonePending};
 ghost use Rattle.hall.specs.Views.{standing};
 ghost use Rattle.hall.specs.declared.view.Standing.TheVariants.{Away};
 
@@ -32,6 +33,7 @@ fn in_falling_order<R: Wait + Abort>(
 )
     requires pass { IsPassOf hall.now pass.old × (1 < (shape_of hall.now).locks) }
     requires away { (standing (view pass.old) 0 ≡ Away) × (standing (view pass.old) 1 ≡ Away) }
+    requires clear { HasNonePending (view pass.old) }
     requires other { IsPassOf hall.now other.old }
     ensures pass { IsPassOf hall.now pass.new }
     ensures other { IsPassOf hall.now other.new }
@@ -43,7 +45,7 @@ fn in_falling_order<R: Wait + Abort>(
             let stand_by_position = matches!(
                 &guards,
                 Guards {
-                    first: Some(OneGuard::Shared(SharedGuard { lock: 1 })),
+                    first: Some(OneGuard::Shared(SharedGuard { lock: 1, form: _ })),
                     second: Some(OneGuard::Exclusive(ExclusiveGuard { lock: 0 })),
                 }
             );
@@ -58,6 +60,7 @@ fn in_falling_order<R: Wait + Abort>(
 fn one_lock_twice<R: Wait + Abort>(rt: &R, hall: &Hall<NoCargo>, pass: &mut Pass<NoCargo>)
     requires pass { IsPassOf hall.now pass.old × (1 < (shape_of hall.now).locks) }
     requires away { (standing (view pass.old) 0 ≡ Away) × (standing (view pass.old) 1 ≡ Away) }
+    requires clear { HasNonePending (view pass.old) }
     ensures pass { IsPassOf hall.now pass.new }
 {
     let wants = [(0, Mode::Shared), (0, Mode::Exclusive)];
@@ -79,6 +82,7 @@ fn behind_a_writer<A: Abort>(
 )
     requires pass { IsPassOf hall.now pass.old × (1 < (shape_of hall.now).locks) }
     requires away { (standing (view pass.old) 0 ≡ Away) × (standing (view pass.old) 1 ≡ Away) }
+    requires clear { HasNonePending (view pass.old) }
     requires other { IsPassOf hall.now other.old }
     requires far { standing (view other.old) 1 ≡ Away }
     ensures pass { IsPassOf hall.now pass.new }

@@ -3,14 +3,16 @@
 //! `timed_wait` has this loop for an attempt of one type; these are generic in what the hall carries, so that each is a
 //! loop of its own.
 ghost use Rattle.std.specs.Prelude.{◌≡◌, ◌<◌, List, MatchResult, true, false};
-ghost use Rattle.hall.specs.Fitting.{AnnouncedFits};
+ghost use Rattle.hall.specs.Fitting.{SharedFits};
 ghost use Rattle.hall.specs.Passes.{view, IsPassOf, shape_of};
+ghost use Rattle.hall.specs.Slotting.{HasNonePending};
 ghost use Rattle.hall.specs.Views.{standing};
 ghost use Rattle.hall.specs.declared.guards.TryFault.{TryFault};
-ghost use Rattle.hall.specs.declared.view.Standing.TheVariants.{Away, Announcing, Exclusive, Inline, Upgrade};
+ghost use Rattle.hall.specs.declared.view.Standing.TheVariants.{Away, Announcing, Exclusive, Upgrade};
 ghost use Rattle.shared_mutex.specs.Acquiring.{ElsewhereSame, RefusesAnnouncing};
-ghost use Rattle.shared_mutex.specs.Tries.{AddsSteps, AnnouncesAndSweeps, AnnouncesAtLast, EntersAtLast, HoldsAtLast, IsPatientTry, WritesAtLast};
+ghost use Rattle.shared_mutex.specs.Tries.{AddsSteps, AnnouncesAndSweeps, AnnouncesAtLast, HoldsAtLast, IsPatientTry, WritesAtLast};
 ghost use Rattle.upgrade_mode.specs.Tries.{EntersUpgradeAtLast};
+ghost use Rattle.acquire_many.specs.Met.{EntersAtLastBy};
 
 use apply_deferred::scan;
 use hall::{Announced, Cargo, ExclusiveGuard, Hall, Pass, SharedGuard, TryFault, UpgradeGuard};
@@ -29,11 +31,13 @@ pub(crate) fn enter<R: Wait, C: Cargo>(
     requires pass { IsPassOf hall.now pass.old }
     requires lock { lock < (shape_of hall.now).locks }
     requires away { standing (view pass.old) lock ≡ Away }
+    requires clear { HasNonePending (view pass.old) }
     ensures pass { IsPassOf hall.now pass.new }
     ensures lock { result.lock ≡ lock }
-    ensures stands { standing (view pass.new) lock ≡ Inline }
+    ensures fits { SharedFits (shape_of hall.now) (view pass.new) result }
+    ensures clear { HasNonePending (view pass.new) }
     ensures elsewhere { ElsewhereSame (view pass.old) (view pass.new) lock }
-    ensures step { (faults : List TryFault) × EntersAtLast C.CargoRule (view pass.old) lock faults (view pass.new) }
+    ensures step { (faults : List TryFault) × EntersAtLastBy C.CargoRule (view pass.old) lock result.form faults (view pass.new) }
     ensures patient { AddsSteps (IsPatientTry (view pass.old) lock) (view pass.old) (view pass.new) }
 {
     for _ in rt.forever() {
@@ -55,9 +59,11 @@ pub(crate) fn rise<R: Wait, C: Cargo>(
     requires pass { IsPassOf hall.now pass.old }
     requires lock { lock < (shape_of hall.now).locks }
     requires away { standing (view pass.old) lock ≡ Away }
+    requires clear { HasNonePending (view pass.old) }
     ensures pass { IsPassOf hall.now pass.new }
     ensures lock { result.lock ≡ lock }
     ensures stands { standing (view pass.new) lock ≡ Upgrade }
+    ensures clear { HasNonePending (view pass.new) }
     ensures elsewhere { ElsewhereSame (view pass.old) (view pass.new) lock }
     ensures step { (faults : List TryFault) × EntersUpgradeAtLast C.CargoRule (view pass.old) lock faults (view pass.new) }
     ensures patient { AddsSteps (IsPatientTry (view pass.old) lock) (view pass.old) (view pass.new) }
@@ -164,9 +170,11 @@ pub(crate) fn write<R: Wait, C: Cargo>(
     requires pass { IsPassOf hall.now pass.old }
     requires lock { lock < (shape_of hall.now).locks }
     requires away { standing (view pass.old) lock ≡ Away }
+    requires clear { HasNonePending (view pass.old) }
     ensures pass { IsPassOf hall.now pass.new }
     ensures lock { result.lock ≡ lock }
     ensures stands { standing (view pass.new) lock ≡ Exclusive }
+    ensures clear { HasNonePending (view pass.new) }
     ensures elsewhere { ElsewhereSame (view pass.old) (view pass.new) lock }
     ensures step { (faults : List TryFault) × (misses : List TryFault) × WritesAtLast C.CargoRule (view pass.old) lock faults misses (view pass.new) }
     ensures patient { AddsSteps (IsPatientTry (view pass.old) lock) (view pass.old) (view pass.new) }

@@ -1,5 +1,5 @@
 -- Two cells that were taken at once: what the pass knows then, and by which steps it came to them.
-use Rattle.std.specs.Prelude.{◌≡◌, ◌≢◌, ◌⊎◌, ℕ, zero, suc, ◌+◌, ◌<◌, true, List, [], ◌∷◌, ◌++◌, length, Some, None, slice_index_or, Result, Ok, Err, MatchResult}
+use Rattle.std.specs.Prelude.{Bool, false, ◌==◌, Option, ◌≡◌, ◌≢◌, ◌⊎◌, ℕ, zero, suc, ◌+◌, ◌<◌, true, List, [], ◌∷◌, ◌++◌, length, Some, None, slice_index_or, Result, Ok, Err, MatchResult}
 use Rattle.std.proofs.Common.{refl, sym, ap, ◌∙◌, subst, inl, inr, ⊎_elim, arith}
 use Rattle.lock_model.specs.Locks.{Has}
 use Rattle.lock_model.specs.declared.model.Mode.{Mode}
@@ -9,22 +9,30 @@ use Rattle.hall.specs.declared.view.Kind.{Kind}
 use Rattle.hall.specs.declared.view.Kind.TheVariants as kinds
 use Rattle.hall.specs.declared.view.Shape.{Shape}
 use Rattle.hall.specs.declared.view.Standing.{Standing}
-use Rattle.hall.specs.declared.view.Standing.TheVariants.{Away, Inline, Upgrade, Exclusive}
+use Rattle.hall.specs.declared.view.Standing.TheVariants.{Away, Inline, Slotted, Undecided, Upgrade, Exclusive}
 use Rattle.hall.specs.declared.view.StepEntry.{StepEntry}
 use Rattle.hall.specs.declared.view.View.{View}
 use Rattle.hall.specs.Treading.{Treads, treads_as}
 use Rattle.hall.specs.Views.{after_look, after_step, entry_of, mode_of, standing}
 use Rattle.shared_mutex.specs.Refused.{AddsReads}
 use Rattle.shared_mutex.specs.Tries.{AddsSteps, IsPatientTry, IsTry}
-use Rattle.shared_mutex.specs.TryLaws.{adds_as}
+use Rattle.shared_mutex.specs.TryLaws.{adds_as, stands_still}
 use Rattle.acquire_many.specs.declared.guards.Guards.{Guards}
 use Rattle.acquire_many.specs.declared.many.SameCell.{SameCell}
 use Rattle.acquire_many.specs.Guards.{Fit, said_by}
-use Rattle.acquire_many.specs.Met.{InTurn, IsFor, IsForAny, MeetsPatiently}
+use Rattle.acquire_many.specs.MetLaws.{of_held}
+use Rattle.acquire_many.specs.declared.guards.How.TheVariants as hows
+use Rattle.hall.specs.declared.guards.Form.{Form}
+use Rattle.hall.specs.declared.guards.Form.TheVariants as forms
+use Rattle.hall.specs.declared.guards.Why.TheVariants.{NoDefer, SlotsTaken}
+use Rattle.shared_mutex.specs.Acquiring.{EntersBy}
+use Rattle.shared_mutex.specs.TokenLaws.{both_missed, loaded, placed, still_away}
+use Rattle.shared_mutex.specs.Tokens.{OnlyTried}
+use Rattle.acquire_many.specs.Met.{HeldAll, InTurn, IsFor, IsForAny, MeetsPatiently}
 use Rattle.acquire_many.specs.Took.{TookAll}
-use Rattle.acquire_many.specs.Wants.{InOrder, IsFirstTwice, Want, lock_at, want_at}
+use Rattle.acquire_many.specs.Wants.{Hold, InOrder, IsFirstTwice, Want, lock_at, want_at}
 use Rattle.map_cargo.specs.declared.entry.Part.{Part}
-use Rattle.map_cargo.specs.Gaining.{gained_by}
+use Rattle.map_cargo.specs.Gaining.{gained_with}
 use Rattle.map_cargo.specs.History.{IsSettled, Learns}
 use Rattle.map_cargo.specs.Steps.{Gained, IsIdle}
 use Rattle.sync_cell.specs.Cells.{maps}
@@ -41,37 +49,57 @@ use Rattle.query_cells.proofs.Taking.{Unchanged, announced_at_last, gained_later
 abbrev GainsCell : ℕ → View Part → View Part → Type 0
 GainsCell lock v w = Gained lock v w × AddsReads (λ shape number added. GainedBy AnyStep lock number added) v w
 
-gains_by : (v u w : View Part) (lock : ℕ) (kind : Kind) (word : ℕ) (y : Standing) → Unchanged v u → (ws : List ℕ) × (part : Part) × Learns lock u.part part × (w ≡ after_step u kind lock word true y part) → gains_mode kind ≡ true → AddsSteps (IsPatientTry v lock) v w → GainsCell lock v w
-gains_by v u w lock kind word y before gains such patient = (
-  gained_later lock v u w before (gained_by kind y u lock word w gains),
-  gained_last AnyStep v u w lock (entry_of u kind lock word true) (any_tries v w lock (adds_as (IsPatientTry v lock) (IsTry v lock) v w (λ e p. p.0) patient)) before.goes_on.more (ap (λ (x : View Part). x.steps) gains.3) refl such,
+gains_by : (v u w : View Part) (lock : ℕ) (kind : Kind) (won : Bool) (word : ℕ) (y : Standing) → Unchanged v u → (ws : List ℕ) × (part : Part) × Learns lock u.part part × (w ≡ after_step u kind lock word won y part) → gains_mode kind won word ≡ true → AddsSteps (IsPatientTry v lock) v w → GainsCell lock v w
+gains_by v u w lock kind won word y before gains such patient = (
+  gained_later lock v u w before (gained_with kind won y u lock word w gains),
+  gained_last AnyStep v u w lock (entry_of u kind lock word won) (any_tries v w lock (adds_as (IsPatientTry v lock) (IsTry v lock) v w (λ e p. p.0) patient)) before.goes_on.more (ap (λ (x : View Part). x.steps) gains.3) such,
 )
 
-met_one : (v w : View Part) (want : Want) → MeetsPatiently maps v want w → GainsCell want.0 v w
-met_one v w (lock, modes.Shared) m =
-    let e = m.0.1 in let u = after_look e.0 kinds.Load lock e.3.0 in
-    gains_by v u w lock kinds.Enter e.3.0 Inline (unchanged_then v e.0 u (unchanged_look v e.0 lock e.2) (unchanged_once e.0 kinds.Load lock e.3.0)) e.3.2.0 refl m.1
-met_one v w (lock, modes.Upgrade) m =
-    let e = m.0.1 in let u = after_look e.0 kinds.Load lock e.3.0 in
-    gains_by v u w lock kinds.UpgradeIn e.3.0 Upgrade (unchanged_then v e.0 u (unchanged_look v e.0 lock e.2) (unchanged_once e.0 kinds.Load lock e.3.0)) e.3.2.0 refl m.1
-met_one v w (lock, modes.Exclusive) m =
-    let s = m.0.2 in let a = s.0 in let last = s.2 in
-    gains_by v last.0 w lock kinds.Hold 4 Exclusive (unchanged_then v a last.0 (announced_at_last maps v lock m.0.0 a s.1) (unchanged_look a last.0 lock last.2)) last.3.0 refl m.1
+-- a reader that only tried so far
+unchanged_tried : (v w : View Part) (lock : ℕ) (y : Standing) → OnlyTried v lock y w → Unchanged v w
+unchanged_tried v w lock y t = record { part = t.part; quota = t.quota; span = t.span; taken = t.taken; goes_on = record { shape = t.shape; number = t.number; more = (t.added, t.steps) } }
+
+-- it entered after looks, by a token or by the count
+reader_by : (v u w : View Part) (lock : ℕ) → standing u lock ≡ Away → Unchanged v u → AddsSteps (IsPatientTry v lock) v w → (form : Form) → EntersBy maps u lock form w → GainsCell lock v w
+reader_by v u w lock away before patient (forms.Deferred slot) e =
+    let l = after_look u kinds.Load lock e.0 in let z = e.2.0 in
+    let t = placed maps u lock away l z slot (still_away maps u lock away e.0) (loaded maps u lock away e.0 l refl) e.2.1 in
+    gains_by v z w lock kinds.Check false e.2.2.0 (Slotted slot) (unchanged_then v u z before (unchanged_tried u z lock (Undecided slot) t)) e.2.2.2.0 (ap (λ (b : ℕ). b == 1) e.2.2.1) patient
+reader_by v u w lock away before patient (forms.Inline (NoDefer seen)) e =
+    let l = after_look u kinds.Load lock seen in
+    gains_by v l w lock kinds.Enter true seen Inline (unchanged_then v u l before (unchanged_tried u l lock Away (loaded maps u lock away seen l refl))) e.2.0 refl patient
+reader_by v u w lock away before patient (forms.Inline (SlotsTaken tokens)) e =
+    let l = after_look u kinds.Load lock e.0 in let z = e.2.0 in
+    let t = both_missed maps u lock away l z tokens (still_away maps u lock away e.0) (loaded maps u lock away e.0 l refl) e.2.1 in
+    gains_by v z w lock kinds.Enter true e.0 Inline (unchanged_then v u z before (unchanged_tried u z lock Away t.0)) e.2.2.0 refl patient
+reader_by v u w lock away before patient forms.Lowered e = absurd e
+
+met_one : (v w : View Part) (hold : Hold) → MeetsPatiently maps v hold w → GainsCell hold.0 v w
+met_one v w (lock, hows.Shared form) m = let e = m.1.1 in let u = e.0 in reader_by v u w lock (stands_still v u lock e.2 ∙ m.0) (unchanged_look v u lock e.2) m.2 form e.3
+met_one v w (lock, hows.Upgrade) m =
+    let e = m.1.1 in let u = after_look e.0 kinds.Load lock e.3.0 in
+    gains_by v u w lock kinds.UpgradeIn true e.3.0 Upgrade (unchanged_then v e.0 u (unchanged_look v e.0 lock e.2) (unchanged_once e.0 kinds.Load lock e.3.0)) e.3.2.0 refl m.2
+met_one v w (lock, hows.Exclusive) m =
+    let s = m.1.2 in let a = s.0 in let last = s.2 in
+    gains_by v last.0 w lock kinds.Hold true 4 Exclusive (unchanged_then v a last.0 (announced_at_last maps v lock m.1.0 a s.1) (unchanged_look a last.0 lock last.2)) last.3.0 refl m.2
 
 -- ---- one after the other
 nothing_same : (v w : View Part) → w ≡ v → TellsNothing v w
 nothing_same v w same = subst (λ (z : View Part). TellsNothing v z) (sym same) record { number = refl; span = refl; taken = refl; quota = refl; seen = refl; told = refl; row = refl; stored = refl; steps = record { added = []; stand = refl } }
 
-met_nothing : (wants : List Want) (v : View Part) (order : List ℕ) (w : View Part) → InTurn (MeetsPatiently maps) wants v order w → TellsNothing v w
-met_nothing wants v [] w same = nothing_same v w same
-met_nothing wants v (k ∷ ks) w t = nothing_then v t.0 w (met_nothing wants v ks t.0 t.1) (nothing_gained (lock_at wants k) t.0 w (met_one t.0 w (want_at wants k) t.2).0)
+met_nothing : (holds : List (Option Hold)) (v : View Part) (order : List ℕ) (w : View Part) → InTurn (MeetsPatiently maps) holds v order w → TellsNothing v w
+met_nothing holds v [] w same = nothing_same v w same
+met_nothing holds v (k ∷ ks) w t = nothing_then v t.0 w (met_nothing holds v ks t.0 t.1) (nothing_gained t.2.0.0 t.0 w (met_one t.0 w t.2.0 t.2.2).0)
 
 -- two of them, the second one's position first
-met_two : (wants : List Want) (v w : View Part) (first second : ℕ) → InTurn (MeetsPatiently maps) wants v (second ∷ first ∷ []) w → AddsReads (λ shape number added. GainedInOrder (lock_at wants first) (lock_at wants second) number added) v w
-met_two wants v w first second t =
-    let u = t.0 in let begun = t.1 in
-    let a = met_one v u (want_at wants first) (subst (λ (z : View Part). MeetsPatiently maps z (want_at wants first) u) begun.1 begun.2) in let b = met_one u w (want_at wants second) t.2 in
-    gained_in_order v u w (lock_at wants first) (lock_at wants second) a.0.number a.1 b.1
+met_two : (wants : List Want) (holds : List (Option Hold)) → HeldAll wants holds → (v w : View Part) (first second : ℕ) → InTurn (MeetsPatiently maps) holds v (second ∷ first ∷ []) w
+    → AddsReads (λ shape number added. GainedInOrder (lock_at wants first) (lock_at wants second) number added) v w
+met_two wants holds held v w first second t =
+    let u = t.0 in let begun = t.1 in let x = begun.2.0 in let y = t.2.0 in
+    let a = met_one v u x (subst (λ (z : View Part). MeetsPatiently maps z x u) begun.1 begun.2.2) in let b = met_one u w y t.2.2 in
+    let lock_x : x.0 ≡ lock_at wants first = ap (λ (q : Want). q.0) (of_held wants holds held first x begun.2.1).1 in let lock_y : y.0 ≡ lock_at wants second = ap (λ (q : Want). q.0) (of_held wants holds held second y t.2.1).1 in
+    subst (λ (i : ℕ). AddsReads (λ shape number added. GainedInOrder i (lock_at wants second) number added) v w) lock_x
+    (subst (λ (j : ℕ). AddsReads (λ shape number added. GainedInOrder x.0 j number added) v w) lock_y (gained_in_order v u w x.0 y.0 a.0.number a.1 b.1))
 
 -- ---- two wants
 -- the positions of two wants, the greater lock first
@@ -138,13 +166,13 @@ module _ (shape : Shape) (one other : ℕ) (mode : Mode) (guards : Guards) (v w 
   order_of : ((one < other) × (t.order ≡ 1 ∷ 0 ∷ [])) ⊎ ((other < one) × (t.order ≡ 0 ∷ 1 ∷ []))
   order_of = in_order (one, mode) (other, mode) t.order t.sorted
 
-  met : (order : List ℕ) → t.order ≡ order → InTurn (MeetsPatiently maps) (both_wanted one other mode) v order w
-  met order is = subst (λ (l : List ℕ). InTurn (MeetsPatiently maps) (both_wanted one other mode) v l w) is t.met
+  met : (order : List ℕ) → t.order ≡ order → InTurn (MeetsPatiently maps) (said_by guards) v order w
+  met order is = subst (λ (l : List ℕ). InTurn (MeetsPatiently maps) (said_by guards) v l w) is t.met
 
   took_in_order : GainsInOrder (one ∷ other ∷ []) v w
   took_in_order = ⊎_elim
-      (λ o. gains_in_order one other v w o.0 (met_two (both_wanted one other mode) v w 0 1 (met (1 ∷ 0 ∷ []) o.1)))
-      (λ o. λ low high a b less. gains_in_order other one v w o.0 (met_two (both_wanted one other mode) v w 1 0 (met (0 ∷ 1 ∷ []) o.1)) low high (turned one other low a) (turned one other high b) less)
+      (λ o. gains_in_order one other v w o.0 (met_two (both_wanted one other mode) (said_by guards) t.held v w 0 1 (met (1 ∷ 0 ∷ []) o.1)))
+      (λ o. λ low high a b less. gains_in_order other one v w o.0 (met_two (both_wanted one other mode) (said_by guards) t.held v w 1 0 (met (0 ∷ 1 ∷ []) o.1)) low high (turned one other low a) (turned one other high b) less)
       order_of
 
   aside : (k : ℕ) → (Has (one ∷ other ∷ []) k → ⊥) → (j : ℕ) → j < length (both_wanted one other mode) → lock_at (both_wanted one other mode) j ≢ k
@@ -167,7 +195,7 @@ module _ (shape : Shape) (one other : ℕ) (mode : Mode) (guards : Guards) (v w 
       fits = fits;
       held = t.held;
     };
-    nothing = met_nothing (both_wanted one other mode) v t.order w t.met;
+    nothing = met_nothing (said_by guards) v t.order w t.met;
     order = took_in_order;
     trail = treads_as (IsForAny (both_wanted one other mode)) (IsAtCells (one ∷ other ∷ []) mode) v w (λ m is. for_cells one other mode m is.0 is.1 is.2) t.trail;
   }

@@ -1,5 +1,6 @@
 use Rattle.std.proofs.Common.{◌≡◌, ◌-◌, length}
 use Rattle.hall.specs.Passes.{view, IsPassOf, shape_of}
+use Rattle.hall.specs.Slotting.{HasNonePending}
 use Rattle.acquire_many.specs.Met.{MeetsPatiently}
 use Rattle.acquire_many.specs.Took.{TookBelow}
 use Rattle.acquire_many.specs.declared.guards.TheConstants.{MANY}
@@ -9,8 +10,9 @@ use Rattle.acquire_many.proofs.many.lock_many.Given as goal
 abbrev pub invariant-loop-position : goal.invariant-loop-position
 invariant-loop-position g l = record {
   pass : IsPassOf l.hall l.pass;
+  clear : HasNonePending (view l.pass);
   room : length l.holds ≡ MANY;
-  took : TookBelow g.C.CargoRule (MeetsPatiently g.C.CargoRule) l.wants l.from (view l.fn.pass) l.holds (view l.pass);
+  took : TookBelow g.C.CargoRule (MeetsPatiently g.C.CargoRule) l.wants (shape_of l.hall) l.from (view l.fn.pass) l.holds (view l.pass);
 }
 
 abbrev pub decreases-loop-position : goal.decreases-loop-position

@@ -10,7 +10,7 @@ returns-in-Ok-clause-step g c = let so_far = c.loop.invariant.refused in let u =
 pub returns-in-Ok-clause-patient : goal.returns-in-Ok-clause-patient
 returns-in-Ok-clause-patient g c =
     let so_far = c.loop.invariant.refused in let v = view c.args.pass.now in let u = view c.loop.pass in
-    patient_reader g.C.CargoRule v (view c.try_lock_shared.new.pass) c.args.lock c.requires.away so_far.0 (u, so_far.1, readers_looked _ v c.args.lock u so_far.0 so_far.1, c.in-Ok.ensures.step.1)
+    patient_reader g.C.CargoRule v (view c.try_lock_shared.new.pass) c.args.lock c.requires.away so_far.0 c.in-Ok.guard.form (u, so_far.1, readers_looked _ v c.args.lock u so_far.0 so_far.1, c.in-Ok.ensures.step.1)
 
 pub loop-preserved : goal.loop-preserved
 loop-preserved g c =
@@ -18,6 +18,7 @@ loop-preserved g c =
       next = search rules;
       goes_on = search rules;
       pass = search rules;
+      clear = search rules;
       stands = search rules;
       elsewhere = search rules;
       refused = (c.in-Err.field-0 ∷ so_far.0, (view c.loop.pass, so_far.1, c.in-Err.ensures.step));

@@ -18,6 +18,7 @@ loop-preserved g c =
       next = search rules;
       goes_on = search rules;
       pass = search rules;
+      clear = search rules;
       stands = search rules;
       elsewhere = search rules;
       refused = (c.in-Err.field-0 ∷ so_far.0, (view c.loop.pass, so_far.1, c.in-Err.ensures.step));

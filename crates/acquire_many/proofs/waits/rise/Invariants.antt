@@ -2,6 +2,7 @@ use Rattle.std.proofs.Common.{◌≡◌, List}
 use Rattle.hall.specs.declared.guards.TryFault.{TryFault}
 use Rattle.hall.specs.declared.view.Standing.TheVariants.{Away, Announcing}
 use Rattle.hall.specs.Passes.{view, IsPassOf, shape_of}
+use Rattle.hall.specs.Slotting.{HasNonePending}
 use Rattle.hall.specs.Views.{standing}
 use Rattle.shared_mutex.specs.Acquiring.{ElsewhereSame}
 use Rattle.upgrade_mode.specs.Tries.{UpgradersRefused}
@@ -13,6 +14,7 @@ invariant-loop g l = record {
   next : (goal.iterator-loop g).can_next l.iterator';
   goes_on : (goal.iterator-loop g).is_finite l.iterator';
   pass : IsPassOf l.hall l.pass;
+  clear : HasNonePending (view l.pass);
   stands : standing (view l.pass) l.lock ≡ Away;
   elsewhere : ElsewhereSame (view l.fn.pass) (view l.pass) l.lock;
   refused : (faults : List TryFault) × UpgradersRefused g.C.CargoRule l.lock (view l.fn.pass) faults (view l.pass);
