@@ -51,7 +51,7 @@ module _ (c : MapCargo) (shape : Shape) (one other : ℕ) (mode : Mode) (guards 
 
   held_cells : (held : GuardsBoth shape one other mode guards a) → Treads (IsForHeld maps (said_by guards)) t w → Treads (IsAtCells (one ∷ other ∷ []) mode) t w
   held_cells h trail = treads_as (IsForHeld maps (said_by guards)) (IsAtCells (one ∷ other ∷ []) mode) t w
-      (λ m is. let of = of_held (both_wanted one other mode) (said_by guards) h.held is.0 is.1 is.2 in for_cells one other mode m is.0 of.0 (subst (λ (x : Want). IsFor x m) (sym of.1) is.3)) trail
+      (λ m is. let of = of_held (both_wanted one other mode) (said_by guards) h.held is.0 is.1 is.2 in for_cells one other mode m is.0 of.0 (subst (λ (x : Want). IsFor x m) of.1 is.3)) trail
 
   pub both_tread : (mode ≢ modes.Shared → is_strong q ≡ true) → Treads (IsAtCells (one ∷ other ∷ []) mode) u t → Treads (IsForHeld maps (said_by guards)) t w → Treads (MayTread q) v w
   both_tread strong told gave =

@@ -91,7 +91,7 @@ still_guarded shape a b mode guards v x same settled h = record {
     others = λ k none. still_stands v x k same ∙ h.holds.others k none;
     settled = settled;
   };
-  fits = record { each = λ k hold at. let is = h.fits.each k hold at in (is.0, still_stands v x hold.0 same ∙ is.1); apart = h.fits.apart };
+  fits = record { each = λ k hold at. let is = h.fits.each k hold at in (is.0, still_stands v x hold.0 same ∙ is.1, is.2); apart = h.fits.apart };
   held = h.held;
 }
 
