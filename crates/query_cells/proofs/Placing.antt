@@ -175,8 +175,5 @@ holds_one v lock q said y holds only some mode = record {
       (λ ne. absurd (some k has (ap mode_of (only k ne))));
 }
 
-pub holds_read : (v : View Part) (lock : ℕ) (q : Query) (said : Said) → standing v lock ≡ Inline → ((k : ℕ) → k ≢ lock → standing v k ≡ Away) → ((k : ℕ) → Has (spoken_cells q) k → mode_of (standing v k) ≢ None) → mode_for q said ≡ shared_mode → HoldsFor q said v
-holds_read v lock q said inline only some mode = holds_one v lock q said Inline inline only some mode
-
 pub holds_upgrade : (v : View Part) (lock : ℕ) (q : Query) (said : Said) → standing v lock ≡ Upgrade → ((k : ℕ) → k ≢ lock → standing v k ≡ Away) → ((k : ℕ) → Has (spoken_cells q) k → mode_of (standing v k) ≢ None) → mode_for q said ≡ upgrade_mode → HoldsFor q said v
 holds_upgrade v lock q said upgrade only some mode = holds_one v lock q said Upgrade upgrade only some mode

@@ -165,6 +165,7 @@ pub(crate) fn leave_lowered(hall: &Hall<MapCargo>, pass: &mut Pass<MapCargo>, pt
     ensures left { Left (view pass.old) (view pass.new) }
     ensures back { LeadsBack (cargo_of hall.now) (view pass.old) (view pass.new) }
     ensures trail { Treads (IsAt ptr.guard.lock) (view pass.old) (view pass.new) }
+    ensures quiet { AddsSteps IsQuiet (view pass.old) (view pass.new) }
 {
     let ptr = move_from_write_to_read(hall, pass, ptr);
     leave_reading(hall, pass, ptr);

@@ -1,11 +1,13 @@
-use Rattle.std.proofs.Common.{◌<◌, ◌∙◌, ap, subst, sym, true}
+use Rattle.std.proofs.Common.{◌<◌, ◌∙◌, ap, refl, subst, sym, true}
 use Rattle.hall.specs.declared.view.Kind.TheVariants.{ExclusiveShared}
 use Rattle.hall.specs.declared.view.Shape.{Shape}
 use Rattle.hall.specs.declared.view.View.{View}
 use Rattle.hall.specs.Passes.{view, cargo_of}
 use Rattle.hall.specs.Treading.{IsAt, IsWeakAt, Treads, treads_as, treads_then}
 use Rattle.map_cargo.specs.declared.entry.Part.{Part}
+use Rattle.hall.specs.Views.{entry_of}
 use Rattle.query_cells.proofs.Placing.{leads_once, leads_then}
+use Rattle.query_cells.proofs.Quiet.{quiet_once, quiet_then}
 use Rattle.sync_cell.specs.TrailLaws.{lowers_treads}
 use Rattle.query_cells.proofs.holding.leave_lowered.Goals as goal
 
@@ -34,3 +36,8 @@ returns-clause-trail c =
 
 pub returns-clause-elsewhere : goal.returns-clause-elsewhere
 returns-clause-elsewhere c = let read = c.move_from_write_to_read-ptr.ensures in λ k ne. c.leave_reading.ensures.elsewhere k (λ at. ne (at ∙ read.cell)) ∙ read.elsewhere k ne
+
+pub returns-clause-quiet : goal.returns-clause-quiet
+returns-clause-quiet c =
+    let v = view c.args.pass.now in let u = view c.move_from_write_to_read-ptr.new.pass in let is = c.move_from_write_to_read-ptr.ensures.step.1 in
+    quiet_then v u (view c.leave_reading.new.pass) (quiet_once v u (entry_of v ExclusiveShared c.args.ptr.guard.lock 8 true) (refl, refl) (ap (λ (z : View Part). z.steps) is)) c.leave_reading.ensures.quiet
