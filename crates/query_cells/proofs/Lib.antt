@@ -7,6 +7,7 @@ pub mod Placing
 pub mod Quiet
 pub mod Refusing
 pub mod Replies
+pub mod Single
 pub mod Taking
 pub mod Trails
 pub mod Tries

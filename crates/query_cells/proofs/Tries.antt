@@ -33,7 +33,7 @@ use Rattle.query_cells.specs.Answers.{Tells, TurnedAway}
 use Rattle.query_cells.specs.Placing.{IsPlacedUnder, PlacedUnder}
 use Rattle.query_cells.proofs.Trails.{InOrder}
 
-not_both : (b : Bool) → b ≡ true → b ≡ false → ⊥
+pub not_both : (b : Bool) → b ≡ true → b ≡ false → ⊥
 not_both b t f = absurd (cc)
 
 is_one : (a k : ℕ) → Has (a ∷ []) k → k ≡ a
@@ -50,7 +50,7 @@ reads_more v u w lock number shape a b =
 
 module _ (g : Ghosts MapCargo Part) (v w : View Part) (lock : ℕ) (away : standing v lock ≡ Away) (fault : TryFault) (expected found : ℕ) (is : fault ≡ Raced expected found) where
   pub raced_read : RefusesShared g v lock w fault → AddsSteps (IsTrySuch (λ e. refuses_reader v.shape.policy e ≡ false) v lock) v w
-  raced_read r = reader_raced g v w lock away expected found (subst (λ (f : TryFault). RefusesShared g v lock w f) is r)
+  raced_read r = reader_raced g v lock away expected found w (subst (λ (f : TryFault). RefusesShared g v lock w f) is r)
 
   pub raced_write : RefusesExclusive g v lock w fault → AddsSteps (IsTrySuch (λ e. refuses_writer e ≡ false) v lock) v w
   raced_write r = writer_raced g v w lock away expected found (subst (λ (f : TryFault). RefusesExclusive g v lock w f) is r)
@@ -66,17 +66,6 @@ refused_tried v u w q cell reply names takes away load =
     let e : StepEntry = entry_of u Load load.0 load.1 false in
     let all : AddsSteps (IsTry v cell) v w = adds_then (IsTry v cell) v u w away.tries (e ∷ [], load.3, All-cons (IsTry v cell) e [] (away.nothing.number, here, ap (λ (i : ℕ). mode_of (standing u i)) here ∙ ap mode_of away.away) (All-nil (IsTry v cell))) in
     λ refused k has. subst (λ (i : ℕ). AddsSteps (IsTry v i) v w) (sym (is_one cell k (subst (λ (l : List ℕ). Has l k) takes has))) all
-
--- ---- tries that were granted
-pub read_by_tries : (v u w : View Part) (cell key : ℕ) (reply : Reply) → AddsReads (λ shape number added. GainedBy (λ e. refuses_reader shape.policy e ≡ false) cell number added) v u → AddsSteps IsQuiet u w → GoesByTries (query.TryGet cell key) reply v w
-read_by_tries v u w cell key reply gained quiet = λ granted. gained_then (λ e. refuses_reader v.shape.policy e ≡ false) v u w cell gained (quiet_for_reader u w v.shape.policy quiet)
-
-pub wrote_by_tries : (v u w : View Part) (cell key value : ℕ) (reply : Reply) → AddsReads (λ shape number added. GainedBy (λ e. refuses_writer e ≡ false) cell number added) v u → AddsSteps IsQuiet u w → GoesByTries (query.TryPut cell key value) reply v w
-wrote_by_tries v u w cell key value reply gained quiet = λ granted. gained_then (λ e. refuses_writer e ≡ false) v u w cell gained (quiet_for_writer u w quiet)
-
--- what was refused wasn't granted
-pub busy_ungranted : (reply : Reply) → reply ≡ Busy → is_granted reply ≡ true → ⊥
-busy_ungranted reply is granted = not_both (is_granted reply) granted (ap is_granted is)
 
 -- ---- two cells
 pub none_in_order : (q : Query) (v w : View Part) → taken_cells q ≡ [] → TakesInOrder q v w

@@ -1,19 +1,19 @@
 -- Steps of one query: what they keep, and what they tell.
-use Rattle.std.specs.Prelude.{◌≡◌, ◌≢◌, ◌⊎◌, ℕ, ◌+◌, ◌<◌, ◌≤◌, List, [], ◌∷◌, ◌++◌, All, MatchBool, Some, true, false}
+use Rattle.std.specs.Prelude.{◌≡◌, ◌≢◌, ◌⊎◌, ℕ, ◌+◌, ◌<◌, ◌≤◌, Bool, List, [], ◌∷◌, ◌++◌, ◌||◌, All, MatchBool, Some, true, false}
 use Rattle.lock_model.specs.Locks.{Has}
 use Rattle.hall.specs.declared.view.Footprint.{Footprint}
 use Rattle.hall.specs.declared.view.View.{View}
 use Rattle.hall.specs.declared.view.StepEntry.{StepEntry}
 use Rattle.hall.specs.declared.view.Standing.{Standing}
 use Rattle.hall.specs.declared.view.Standing.TheVariants.{Away}
-use Rattle.hall.specs.Cargo.{shared_mode, exclusive_mode}
+use Rattle.hall.specs.Cargo.{exclusive_mode}
 use Rattle.hall.specs.Treading.{IsAt, IsWeakAt}
-use Rattle.hall.specs.Views.{standing, mode_of, place_of}
+use Rattle.hall.specs.Views.{standing, mode_of}
 use Rattle.query_rules.specs.declared.query.Query.{Query}
-use Rattle.query_rules.specs.declared.query.Query.TheVariants.{Put}
+use Rattle.query_rules.specs.declared.query.Query.TheVariants.{Get, Len, Put, Del, Add, Cas, PutLen, TryGet, TryPut, GetBy, PutBy}
 use Rattle.query_rules.specs.declared.query.Said.{Said}
 use Rattle.query_rules.specs.declared.query.Reply.{Reply}
-use Rattle.query_rules.specs.Maps.{Maps, reply_of, is_write, after, get_says}
+use Rattle.query_rules.specs.Maps.{Maps, reply_of, is_write, after}
 use Rattle.query_rules.specs.History.{IsKindFor}
 use Rattle.map_cargo.specs.declared.size.MapCargo.{MapCargo}
 use Rattle.map_cargo.specs.declared.entry.Part.{Part}
@@ -54,7 +54,7 @@ pub record LeadsBack (c : MapCargo) (v w : View Part) : Type 0 where
   pub added : List StepEntry
   pub stand : w.steps ≡ added ++ v.steps
   pub aside : All (λ (e : StepEntry). e.place ≢ number_word c v) added
-  pub back : (lock : ℕ) → stood_at (place_of v lock) added (standing w lock) ≡ standing v lock
+  pub back : (lock : ℕ) → stood_at lock added (standing w lock) ≡ standing v lock
 
 -- the pass holds each cell that this reply to the query speaks of in the mode for it
 pub record HoldsFor (q : Query) (said : Said) (v : View Part) : Type 0 where
@@ -83,18 +83,52 @@ pub record Follows (v w : View Part) (q : Query) (said : Said) : Type 0 where
 abbrev pub Stored : View Part → ℕ → Query → Said → Type 0
 Stored v cell q said = Means (words_of v.part cell) (after (plain_of v.part) q said cell)
 
--- a query that asks for the value of a key in a cell
-pub record AsksValue (q : Query) (cell key : ℕ) : Type 0 where
-  pub names : spoken_cells q ≡ cell ∷ []
-  pub mode : (said : Said) → mode_for q said ≡ shared_mode
-  pub says : (rows : ℕ) (maps : Maps) → reply_of rows maps q ≡ Some (get_says ((maps cell).value_at key))
+-- the cell of a query that speaks of one
+abbrev pub cell_of : Query → ℕ
+cell_of (Get cell key) = cell
+cell_of (Len cell) = cell
+cell_of (Put cell key value) = cell
+cell_of (Del cell key) = cell
+cell_of (Add cell key delta) = cell
+cell_of (Cas cell key old new) = cell
+cell_of (PutLen cell key value) = cell
+cell_of (TryGet cell key) = cell
+cell_of (TryPut cell key value) = cell
+cell_of (GetBy cell key deadline) = cell
+cell_of (PutBy cell key value deadline) = cell
+cell_of _ = 0
 
--- a query that gives a key of a cell this value
-pub record AsksPut (q : Query) (cell key value : ℕ) : Type 0 where
-  pub names : named_cells q ≡ cell ∷ []
-  pub mode : (said : Said) → mode_for q said ≡ exclusive_mode
-  pub says : (rows : ℕ) (maps : Maps) → reply_of rows maps q ≡ reply_of rows maps (Put cell key value)
-  pub leaves : (maps : Maps) (said : Said) → after maps q said ≡ after maps (Put cell key value) said
+-- a query that reads one cell
+abbrev pub reads_cell : Query → Bool
+reads_cell (Get cell key) = true
+reads_cell (Len cell) = true
+reads_cell (TryGet cell key) = true
+reads_cell (GetBy cell key deadline) = true
+reads_cell _ = false
+
+-- a query that takes one cell for writing, before it has looked at it
+abbrev pub writes_cell : Query → Bool
+writes_cell (Put cell key value) = true
+writes_cell (Del cell key) = true
+writes_cell (Add cell key delta) = true
+writes_cell (PutLen cell key value) = true
+writes_cell (TryPut cell key value) = true
+writes_cell (PutBy cell key value deadline) = true
+writes_cell _ = false
+
+-- a query that looks at one cell first, and writes it only where it found what it expects
+abbrev pub compares : Query → Bool
+compares (Cas cell key old new) = true
+compares _ = false
+
+-- a query that may write one cell
+abbrev pub changes_cell : Query → Bool
+changes_cell q = writes_cell q || compares q
+
+-- these maps have what a query that compares expects
+abbrev pub HasExpected : Query → Maps → Type 0
+HasExpected (Cas cell key old new) maps = (maps cell).value_at key ≡ Some old
+HasExpected _ maps = Unit {0}
 
 -- a cell's words are afterwards those that a reply to a query on the maps before leaves
 abbrev pub Leaves : ℕ → View Part → View Part → Query → Said → Type 0

@@ -7,13 +7,13 @@ ghost use Rattle.query_rules.specs.History.{IsKindFor, asks_ledger};
 ghost use Rattle.query_rules.specs.Maps.{may_write};
 ghost use Rattle.map_cargo.specs.Steps.{Suits, IsIdle};
 ghost use Rattle.dist_mutex.specs.Passes.{IsAtRest, IsDistPassOf, SameNumbers, dist_view};
-ghost use Rattle.query_cells.specs.Asked.{AddsJob, AddsReply, AsksClock, GoesByTries, IsForced, IsLateBy, KeepsNumbers, MayTread, OnlyTried, TakesInOrder, is_granted, tells_write};
+ghost use Rattle.query_cells.specs.Asked.{AddsJob, AddsReply, AsksClock, GoesByTries, IsForced, IsLateBy, KeepsNumbers, MayTread, OnlyTried, TakesInOrder, tells_write};
 ghost use Rattle.query_cells.specs.Placing.{IsPlacedUnder};
 
 use crate::ledger::ask_ledger;
-use crate::refusable::{ask_get_by, ask_put_by, ask_try_get, ask_try_put};
-use crate::single::{ask_add, ask_cas, ask_del, ask_get, ask_len, ask_put, ask_put_len};
+use crate::reading::ask_reading;
 use crate::two::{ask_both, ask_move};
+use crate::writing::{ask_comparing, ask_writing};
 use dist_mutex::mutex::DistMutex;
 use dist_mutex::pass::DistPass;
 use hall::{Hall, Pass};
@@ -28,15 +28,16 @@ use std::sync::Wait;
 ///
 /// The maps' queries take their cells by waiting, in the mode that they need: `get`, `len` and `both` for reading; `put`,
 /// `del`, `add`, `putlen` and `move` for writing; `cas` in upgrade mode, beside readers, from which it goes on to write
-/// only where the key has the expected value. `putlen` lets readers in, by one step, before it gives its cell back. Two cells are taken one after the other: the one of the lower
-/// number is held before the other is tried for. Two that are the same one aren't taken.
+/// only where the key has the expected value. `putlen` lets readers in, by one step, before it gives its cell back. Two
+/// cells are taken one after the other: the one of the lower number is held before the other is tried for. Two that are
+/// the same one aren't taken.
 ///
 /// `tryget` and `tryput` try, again where another pass came between, and are `Busy` at the first word that conflicts:
 /// where they were granted, no try of theirs had found one. `getby` and `putby` wait until the clock told the deadline or
 /// later, and are then `Late`. They ask the clock once after each refused try, and each of its answers was below the
 /// deadline but the last one of `Late`; no other query asks it. `Busy` and `Late` come only with words of the cell that
-/// this call read and for which its lock refuses, so in a hall with one seat no query is refused. A refused query never
-/// held its cell: each step of its call was for that cell's lock, made with no mode held there.
+/// this call read and for which its lock refuses. A refused query never held its cell: each step of its call was for that
+/// cell's lock, made with no mode held there.
 ///
 /// A placed reply is told while its cells are held, and the pass has one write less to draw where it is one. A refused one
 /// is told without a place. `give`, `take` and `audit` are jobs of the ledger and leave the hall's pass as it was: the
@@ -80,38 +81,22 @@ pub fn ask<R: Wait, T: Clock>(
     ensures tries { GoesByTries query.now result (view pass.old) (view pass.new) }
     ensures order { TakesInOrder query.now (view pass.old) (view pass.new) }
     ensures trail { Treads (MayTread query.now) (view pass.old) (view pass.new) }
-    ensures alone { (shape_of hall.now).seats ≡ 1 → is_granted result ≡ true }
 {
     match *query {
-        Query::Get { cell, key } => ask_get(rt, hall, pass, index, cell, key),
-        Query::Len { cell } => ask_len(rt, hall, pass, index, cell),
-        Query::Put { cell, key, value } => ask_put(rt, hall, pass, index, cell, key, value),
-        Query::Del { cell, key } => ask_del(rt, hall, pass, index, cell, key),
-        Query::Add { cell, key, delta } => ask_add(rt, hall, pass, index, cell, key, delta),
-        Query::Cas {
-            cell,
-            key,
-            old,
-            new,
-        } => ask_cas(rt, hall, pass, index, cell, key, old, new),
-        Query::PutLen { cell, key, value } => ask_put_len(rt, hall, pass, index, cell, key, value),
+        Query::Get { .. } | Query::Len { .. } | Query::TryGet { .. } | Query::GetBy { .. } => {
+            ask_reading(rt, hall, pass, clock, index, query)
+        }
+        Query::Put { .. }
+        | Query::Del { .. }
+        | Query::Add { .. }
+        | Query::PutLen { .. }
+        | Query::TryPut { .. }
+        | Query::PutBy { .. } => ask_writing(rt, hall, pass, clock, index, query),
+        Query::Cas { .. } => ask_comparing(rt, hall, pass, index, query),
         Query::Move { from, to, key, n } => ask_move(rt, hall, pass, index, from, to, key, n),
         Query::Both { first, second, key } => ask_both(rt, hall, pass, index, first, second, key),
         Query::Give { .. } | Query::Take { .. } | Query::Audit => {
             ask_ledger(rt, dist, dist_pass, index, query)
         }
-        Query::TryGet { cell, key } => ask_try_get(rt, hall, pass, index, cell, key),
-        Query::TryPut { cell, key, value } => ask_try_put(rt, hall, pass, index, cell, key, value),
-        Query::GetBy {
-            cell,
-            key,
-            deadline,
-        } => ask_get_by(rt, hall, pass, clock, index, cell, key, deadline),
-        Query::PutBy {
-            cell,
-            key,
-            value,
-            deadline,
-        } => ask_put_by(rt, hall, pass, clock, index, cell, key, value, deadline),
     }
 }

@@ -14,11 +14,11 @@ mod attempts;
 mod changes;
 mod holding;
 mod ledger;
-mod refusable;
-mod single;
+mod reading;
 mod telling;
 #[cfg(test)]
 mod tests;
 mod two;
+mod writing;
 
 pub use asking::ask;

@@ -1,26 +1,27 @@
 //! Telling a reply by a named step, while its cells are held.
 ghost use Rattle.std.specs.Prelude.{◌≡◌, ◌≢◌, ◌<◌, ◌≤◌, ◌∷◌, [], ℕ, true, false};
-ghost use Rattle.hall.specs.Cargo.{shared_mode, upgrade_mode, exclusive_mode};
+ghost use Rattle.hall.specs.Cargo.{upgrade_mode, exclusive_mode};
 ghost use Rattle.hall.specs.Passes.{view, IsPassOf, shape_of, cargo_of};
 ghost use Rattle.hall.specs.Treading.{IsAt, IsWeakAt, Treads};
 ghost use Rattle.hall.specs.Views.{standing};
-ghost use Rattle.hall.specs.declared.view.Standing.TheVariants.{Inline, Upgrade, Exclusive};
+ghost use Rattle.hall.specs.declared.view.Standing.TheVariants.{Upgrade};
 ghost use Rattle.query_rules.specs.Maps as plain;
 ghost use Rattle.query_rules.specs.Maps.{reply_of};
 ghost use Rattle.map_cargo.specs.Entries.{named_cells, spoken_cells};
-ghost use Rattle.map_cargo.specs.History.{plain_of, IsRested};
+ghost use Rattle.map_cargo.specs.History.{IsRested};
+ghost use Rattle.map_cargo.specs.Licences.{LoadedOnce, MayRefuse};
 ghost use Rattle.map_cargo.specs.Steps.{Suits, Stays, Alike, IsIdle, MayDraw, MayPlace};
 ghost use Rattle.shared_mutex.specs.Tries.{AddsSteps};
 ghost use Rattle.sync_cell.specs.Gains.{IsQuiet};
 ghost use Rattle.query_cells.specs.Asked.{entry_for, is_granted};
 ghost use Rattle.query_cells.specs.Placing.{mode_for};
-ghost use Rattle.query_cells.specs.Answers.{Follows, HoldsFor, MayTell, OnlyAt, Stored, Tells};
+ghost use Rattle.query_cells.specs.Answers.{Follows, HoldsFor, MayTell, OnlyAt, Tells};
 
-use crate::holding::{leave_lowered, leave_reading, leave_upgrade, leave_writing};
+use crate::holding::leave_upgrade;
 use hall::{Hall, Pass};
-use map_cargo::{Entry, MapCargo, draw, place_read};
+use map_cargo::{Entry, MapCargo, draw, note_refused, place_read};
 use query_rules::{Query, Reply, Said};
-use sync_cell::{ReadPtr, UpgradePtr, WritePtr};
+use sync_cell::UpgradePtr;
 
 // Whether a reply is a write.
 fn is_write(said: Said) -> bool
@@ -140,36 +141,6 @@ pub(crate) fn tell(
     }
 }
 
-/// Tells what was read in the one cell that the pass holds, and gives the cell back.
-#[tactic(auto, using(crate::proofs::Placing::holds_read, crate::proofs::Replies::tells_then, crate::proofs::Replies::idle_again))]
-pub(crate) fn answer_read(
-    hall: &Hall<MapCargo>,
-    pass: &mut Pass<MapCargo>,
-    ptr: ReadPtr,
-    index: u64,
-    query: &Query,
-    said: Said,
-) -> Reply
-    requires pass { IsPassOf hall.now pass.old }
-    requires suits { Suits hall.now }
-    requires cell { ptr.guard.lock < (shape_of hall.now).locks }
-    requires held { standing (view pass.old) ptr.guard.lock ≡ Inline }
-    requires only { OnlyAt ptr.guard.lock (view pass.old) }
-    requires may { MayPlace (cargo_of hall.now) (view pass.old) (entry_for (view pass.old).number index query.now said) }
-    requires mode { mode_for query.now said ≡ shared_mode }
-    requires rested { IsRested (view pass.old).part }
-    ensures pass { IsPassOf hall.now pass.new }
-    ensures idle { IsIdle (view pass.new) }
-    ensures tells { Tells (cargo_of hall.now) (view pass.old) (view pass.new) index query.now result }
-    ensures granted { is_granted result ≡ true }
-    ensures trail { Treads (IsWeakAt ptr.guard.lock) (view pass.old) (view pass.new) }
-    ensures quiet { AddsSteps IsQuiet (view pass.old) (view pass.new) }
-{
-    let reply = tell_read(hall, pass, index, query, said);
-    leave_reading(hall, pass, ptr);
-    reply
-}
-
 /// Tells what was read in the one cell that the pass holds in upgrade mode, and gives the cell back.
 #[tactic(auto, using(crate::proofs::Placing::holds_upgrade, crate::proofs::Replies::tells_then, crate::proofs::Replies::idle_again))]
 pub(crate) fn answer_upgraded(
@@ -199,61 +170,24 @@ pub(crate) fn answer_upgraded(
     reply
 }
 
-/// Tells what was said in the one cell that the pass holds for writing, whose words are those that the reply leaves, and
-/// gives the cell back.
-#[tactic(auto, using(crate::proofs::Replies::tells_then, crate::proofs::Replies::idle_again, crate::proofs::Replies::settled_again))]
-pub(crate) fn answer(
+/// Tells a reply that has no place, by one load of the state word of the query's cell.
+#[tactic(auto, using(crate::proofs::Refusing::refusal_tells, crate::proofs::Pairs::idle_alike, crate::proofs::Refusing::still_rested))]
+pub(crate) fn refuse(
     hall: &Hall<MapCargo>,
     pass: &mut Pass<MapCargo>,
-    ptr: WritePtr,
     index: u64,
     query: &Query,
-    said: Said,
+    reply: Reply,
 ) -> Reply
     requires pass { IsPassOf hall.now pass.old }
-    requires suits { Suits hall.now }
-    requires cell { ptr.guard.lock < (shape_of hall.now).locks }
-    requires held { standing (view pass.old) ptr.guard.lock ≡ Exclusive }
-    requires only { OnlyAt ptr.guard.lock (view pass.old) }
-    requires may { MayTell (cargo_of hall.now) (view pass.old) query.now said }
-    requires stored { Stored (view pass.old) ptr.guard.lock query.now said }
-    ensures pass { IsPassOf hall.now pass.new }
-    ensures idle { IsIdle (view pass.new) }
+    requires idle { IsIdle (view pass.old) }
+    requires may { MayRefuse (view pass.old) query.now reply }
+    ensures pass { IsPassOf hall.now pass.new × IsIdle (view pass.new) }
+    ensures trail { (view pass.new).trail ≡ (view pass.old).trail }
     ensures tells { Tells (cargo_of hall.now) (view pass.old) (view pass.new) index query.now result }
-    ensures granted { is_granted result ≡ true }
-    ensures trail { Treads (IsAt ptr.guard.lock) (view pass.old) (view pass.new) }
-    ensures quiet { AddsSteps IsQuiet (view pass.old) (view pass.new) }
+    ensures reply { result ≡ reply }
+    ensures load { LoadedOnce query.now (view pass.old) (view pass.new) }
 {
-    let reply = tell(hall, pass, index, query, said);
-    leave_writing(hall, pass, ptr);
+    note_refused(hall, pass, index, query, &reply);
     reply
-}
-
-/// Tells what was said in the one cell that the pass holds for writing, whose words are those that the reply leaves, lets
-/// readers in, and gives the cell back.
-#[tactic(auto, using(crate::proofs::Replies::tells_then, crate::proofs::Replies::idle_again, crate::proofs::Replies::settled_again))]
-pub(crate) fn answer_lowered(
-    hall: &Hall<MapCargo>,
-    pass: &mut Pass<MapCargo>,
-    ptr: WritePtr,
-    index: u64,
-    query: &Query,
-    said: Said,
-) -> Reply
-    requires pass { IsPassOf hall.now pass.old }
-    requires suits { Suits hall.now }
-    requires cell { ptr.guard.lock < (shape_of hall.now).locks }
-    requires held { standing (view pass.old) ptr.guard.lock ≡ Exclusive }
-    requires only { OnlyAt ptr.guard.lock (view pass.old) }
-    requires may { MayTell (cargo_of hall.now) (view pass.old) query.now said }
-    requires stored { Stored (view pass.old) ptr.guard.lock query.now said }
-    ensures pass { IsPassOf hall.now pass.new }
-    ensures idle { IsIdle (view pass.new) }
-    ensures tells { Tells (cargo_of hall.now) (view pass.old) (view pass.new) index query.now result }
-    ensures granted { is_granted result ≡ true }
-    ensures trail { Treads (IsAt ptr.guard.lock) (view pass.old) (view pass.new) }
-{
-    let told = tell(hall, pass, index, query, said);
-    leave_lowered(hall, pass, ptr);
-    told
 }
