@@ -18,7 +18,7 @@ use Rattle.reader_slots.specs.declared.Withdrawn.{Withdrawn}
 use Rattle.reader_slots.specs.declared.Withdrawn.TheVariants.{Cleared, GaveBack}
 use Rattle.reader_slots.specs.Deferring.{LeavesAs}
 use Rattle.shared_mutex.specs.Acquiring.{EntersBy, LeavesShared}
-use Rattle.shared_mutex.specs.Entering.{EntersLast, enters_by}
+use Rattle.shared_mutex.specs.Entering.{EntersLast, enters_last}
 use Rattle.map_cargo.specs.declared.entry.Part.{Part}
 use Rattle.map_cargo.specs.declared.size.MapCargo.{MapCargo}
 use Rattle.map_cargo.specs.Gaining.{gained_from, gained_with}
@@ -38,7 +38,7 @@ fits_shared shape v guard lock at fits = ap (λ (k : ℕ). mode_of (standing v k
 module _ (g : Ghosts MapCargo Part) (lock : ℕ) (v w : View Part) where
   pub gained_shared : ((ws : List ℕ) (p q : Part) → g.gains lock ws p q → Learns lock p q) → standing v lock ≡ Away → (form : Form) → EntersBy g v lock form w → Gained lock v w
   gained_shared learns away form enters =
-      let e : EntersLast g v lock w = enters_by g v w lock away form enters in let t = e.tried in
+      let e : EntersLast g v lock w = enters_last g v w lock away (form, enters) in let t = e.tried in
       gained_from lock e.before v w t.part t.number t.quota t.span t.taken record { added = t.added; stand = t.steps }
       (gained_with e.kind e.won e.to e.before lock e.word w (e.words, e.part, learns e.words e.before.part e.part e.gains, e.is))
 

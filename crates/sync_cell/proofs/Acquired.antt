@@ -21,7 +21,7 @@ use Rattle.hall.specs.Views.{after_look, after_step, entry_of, mode_of, standing
 use Rattle.shared_mutex.specs.Tries.{AddsSteps, AnnouncesAtLast, HoldsAtLast, IsLook, IsPatientTry, IsTry, OnlyLooked, is_retract}
 use Rattle.upgrade_mode.specs.Tries.{BeginsAtLast, EntersUpgradeAtLast, HoldsUpAtLast}
 use Rattle.sync_cell.specs.Rising.{IsPatient, IsPatientRise}
-use Rattle.shared_mutex.specs.Entering.{enters_by, enters_patiently}
+use Rattle.shared_mutex.specs.Entering.{enters_last, enters_patiently}
 use Rattle.shared_mutex.specs.TryLaws.{adds_as, adds_then, looked_once, looked_then, stands_still}
 use Rattle.sync_cell.specs.Attempts.{ReadsAtLast}
 
@@ -91,7 +91,7 @@ module _ {C P : Type 0} (g : Ghosts C P) (v : View P) (lock : ℕ) (away : stand
   pub patient_reader : (faults : List TryFault) (form : Form) (w : View P) → ReadsAtLast g v lock form faults w → AddsSteps (IsPatientTry v lock) v w
   patient_reader faults form w e =
       let u : View P = e.0 in let still : standing u lock ≡ Away = stands_still v u lock e.2 ∙ away in
-      patient_then None v u w lock (kept_looked v u lock e.2) (patient_looks v u lock (ap mode_of away) e.2) (enters_patiently g u w lock still (enters_by g u w lock still form e.3))
+      patient_then None v u w lock (kept_looked v u lock e.2) (patient_looks v u lock (ap mode_of away) e.2) (enters_patiently g u w lock still (enters_last g u w lock still (form, e.3)))
 
   pub patient_upgrader : (faults : List TryFault) (w : View P) → EntersUpgradeAtLast g v lock faults w → AddsSteps (IsPatientTry v lock) v w
   patient_upgrader faults w e = (tries_step None v e.0 w kinds.UpgradeIn lock e.3.0 _ e.3.2.0.1 (ap mode_of away) e.2 refl e.3.2.0.3).1
