@@ -1,6 +1,7 @@
 pub mod Acquiring
 pub mod Beside
 pub mod Entering
+pub mod FreeLaws
 pub mod Refused
 pub mod TokenLaws
 pub mod Tokens

@@ -6,7 +6,7 @@ ghost use Rattle.hall.specs.Passes.{view, IsPassOf, shape_of};
 ghost use Rattle.hall.specs.Plays.{conflicts_for_shared, HasRoom};
 ghost use Rattle.hall.specs.Slotting.{HasNonePending};
 ghost use Rattle.hall.specs.Views.{standing};
-ghost use Rattle.hall.specs.declared.view.Standing.TheVariants.{Away, Inline, Undecided};
+ghost use Rattle.hall.specs.declared.view.Standing.TheVariants.{Away, Undecided};
 ghost use Rattle.shared_mutex.specs.Acquiring.{ElsewhereSame, MadeAtMost, EntersBy, EntersInline, LeavesShared, RefusesShared, Settles, steps_to_leave};
 
 use hall::conflicts::conflicts_for_shared;
@@ -28,7 +28,8 @@ fn enter_inline<C: Cargo>(
     requires room { HasRoom seen }
     ensures pass { IsPassOf hall.now pass.new }
     ensures step { EntersInline C.CargoRule (view pass.old) lock seen why (view pass.new) result }
-    ensures stands { MatchResult result (λ _. standing (view pass.new) lock ≡ Inline) (λ _. standing (view pass.new) lock ≡ Away) }
+    ensures stands { MatchResult result (λ guard. standing (view pass.new) lock ≡ stands_by guard.form) (λ _. standing (view pass.new) lock ≡ Away) }
+    ensures fits { IfOk result (λ guard. SharedFits (shape_of hall.now) (view pass.new) guard) }
     ensures elsewhere { ElsewhereSame (view pass.old) (view pass.new) lock }
     ensures steps { MadeAtMost (view pass.old) (view pass.new) 1 }
 {

@@ -28,3 +28,6 @@ returns-in-Err-clause-elsewhere g c =
     let at : c.scan.new.announced.lock ≡ c.in_ok-announced.announced.lock = ap (λ (z : Announced). z.lock) c.scan.ensures.announced in
     let back : c.in-Err.refused.0.lock ≡ c.scan.new.announced.lock = ap (λ (z : Announced). z.lock) refused.0 in
     λ k ne. c.retract.ensures.elsewhere k (λ e. ne (e ∙ back ∙ at ∙ starts.0)) ∙ c.in-Err.ensures.elsewhere k (λ e. ne (e ∙ at ∙ starts.0)) ∙ c.scan.ensures.elsewhere k (λ e. ne (e ∙ starts.0)) ∙ c.in_ok-announced.ensures.elsewhere k ne
+
+pub returns-in-Err-clause-clear : goal.returns-in-Err-clause-clear
+returns-in-Err-clause-clear g c = λ clear. c.retract.ensures.clear (c.in-Err.ensures.clear (c.scan.ensures.clear (c.in_ok-announced.ensures.clear clear)))
