@@ -97,5 +97,5 @@ module _ {C P : Type 0} (g : Ghosts C P) (v : View P) (lock : ℕ) (w : View P) 
 
   -- and its guard fits
   pub with_fits : (r : Result SharedGuard TryFault) (fits : SharedGuard → Type 0) → IfOk r fits → IfOk r (λ guard. (guard.lock ≡ lock) × HasEntered g v lock guard.form w) → IfOk r (λ guard. fits guard × (guard.lock ≡ lock) × HasEntered g v lock guard.form w)
-  with_fits (Ok guard) fits a b = (a, b)
+  with_fits (Ok guard) fits a b = (a, b.0, b.1)
   with_fits (Err f) fits a b = tt
