@@ -1,6 +1,6 @@
 -- Which step placed a reply, and under which mode.
-use Rattle.std.specs.Prelude.{◌≡◌, ◌≢◌, ℕ, ◌+◌, ◌*◌, ◌<◌, ◌≤◌, Bool, true, false, cond, eqb, zero, suc, List, [], ◌∷◌, ◌++◌, All, Option, Some, None, length, slice_index, slice_index_or}
-use Rattle.std.proofs.Common.{refl, sym, ap, ◌∙◌, subst, ⊎_elim, arith, append_assoc, ne_eqb, eq-eqb}
+use Rattle.std.specs.Prelude.{◌≡◌, ◌≢◌, ℕ, ◌+◌, ◌*◌, ◌<◌, ◌≤◌, ◌&&◌, Bool, true, false, cond, eqb, zero, suc, List, [], ◌∷◌, ◌++◌, All, Option, Some, None, length, slice_index, slice_index_or}
+use Rattle.std.proofs.Common.{refl, sym, ap, ◌∙◌, subst, ⊎_elim, arith, append_assoc, ne_eqb, eq-eqb, get_or-set_other}
 use Rattle.std.proofs.Math.Decide.{dec_lt}
 use Rattle.std.proofs.lemmas.List.{get_or_past}
 use Rattle.std.proofs.lemmas.List.Elements.{All-nil, All-cons, All-append}
@@ -11,13 +11,22 @@ use Rattle.lock_model.specs.declared.model.Mode.{Mode}
 use Rattle.hall.specs.declared.view.View.{View}
 use Rattle.hall.specs.declared.view.Kind.{Kind}
 use Rattle.hall.specs.declared.view.Kind.TheVariants.{LoadCargo, AddCargo, StoreCargo}
+use Rattle.hall.specs.declared.view.Kind.TheVariants as kinds
 use Rattle.hall.specs.declared.view.Shape.{Shape}
 use Rattle.hall.specs.declared.view.StepEntry.{StepEntry}
 use Rattle.hall.specs.declared.view.Standing.{Standing}
 use Rattle.hall.specs.declared.view.Standing.TheVariants.{Away, Inline, Upgrade}
 use Rattle.hall.specs.Cargo.{shared_mode, upgrade_mode, exclusive_mode}
-use Rattle.hall.specs.Views.{standing, mode_of, entry_of, place_of}
-use Rattle.shared_mutex.specs.Acquiring.{ElsewhereSame}
+use Rattle.hall.specs.declared.cargo.CargoRule.{Ghosts}
+use Rattle.hall.specs.declared.guards.Form.{Form}
+use Rattle.hall.specs.declared.guards.Form.TheVariants as forms
+use Rattle.hall.specs.Fitting.{IsFormOf}
+use Rattle.hall.specs.Plays.{GivesBack}
+use Rattle.hall.specs.Views.{standing, mode_of, entry_at, entry_of, place_of}
+use Rattle.reader_slots.specs.declared.Withdrawn.{Withdrawn}
+use Rattle.reader_slots.specs.declared.Withdrawn.TheVariants.{Cleared, GaveBack}
+use Rattle.reader_slots.specs.Deferring.{LeavesAs}
+use Rattle.shared_mutex.specs.Acquiring.{ElsewhereSame, LeavesShared}
 use Rattle.query_rules.specs.declared.query.Query.{Query}
 use Rattle.query_rules.specs.declared.query.Said.{Said}
 use Rattle.query_rules.specs.declared.query.Reply.{Reply}
@@ -32,17 +41,20 @@ use Rattle.map_cargo.specs.Entries.{log_words, spoken_cells}
 use Rattle.map_cargo.specs.StepLaws.{more_then}
 use Rattle.map_cargo.specs.Steps.{Alike, MoreSteps, Stays, cargo_step, row_stores}
 use Rattle.query_cells.specs.Asked.{is_job}
-use Rattle.query_cells.specs.Placing.{IsPlacedUnder, PlacedUnder, mode_for, number_word, stood_at}
+use Rattle.query_cells.specs.Placing.{IsPlacedUnder, PlacedUnder, is_of_lock, mode_for, number_word, stood_at}
 use Rattle.query_cells.specs.Answers.{HoldsFor, LeadsBack}
 
 -- steps that were made one after the other lead back one after the other
-stood_append : (place : ℕ) (a b : List StepEntry) (now : Standing) → stood_at place (a ++ b) now ≡ stood_at place b (stood_at place a now)
-stood_append place [] b now = refl
-stood_append place (e ∷ a) b now = stood_append place a b (cond (eqb e.place place) e.before now)
+stood_append : (lock : ℕ) (a b : List StepEntry) (now : Standing) → stood_at lock (a ++ b) now ≡ stood_at lock b (stood_at lock a now)
+stood_append lock [] b now = refl
+stood_append lock (e ∷ a) b now = stood_append lock a b (cond (is_of_lock e.kind && eqb e.lock lock) e.before now)
 
--- a step elsewhere leaves the standing
-elsewhere_stood : (place : ℕ) (e : StepEntry) (now : Standing) → e.place ≢ place → cond (eqb e.place place) e.before now ≡ now
-elsewhere_stood place e now ne = ap (λ (b : Bool). cond b e.before now) (ne_eqb e.place place ne)
+-- a step for another lock leaves the standing, and one for the lock tells the one before it
+elsewhere_stood : (lock : ℕ) (e : StepEntry) (now : Standing) → is_of_lock e.kind ≡ true → e.lock ≢ lock → cond (is_of_lock e.kind && eqb e.lock lock) e.before now ≡ now
+elsewhere_stood lock e now of ne = ap (λ (b : Bool). cond (b && eqb e.lock lock) e.before now) of ∙ ap (λ (b : Bool). cond b e.before now) (ne_eqb e.lock lock ne)
+
+here_stood : (lock : ℕ) (e : StepEntry) (now : Standing) → is_of_lock e.kind ≡ true → e.lock ≡ lock → cond (is_of_lock e.kind && eqb e.lock lock) e.before now ≡ e.before
+here_stood lock e now of is = ap (λ (b : Bool). cond (b && eqb e.lock lock) e.before now) of ∙ ap (λ (b : Bool). cond b e.before now) (eq-eqb e.lock lock is)
 
 -- the stores of a log row are on words of their own
 row_aside : (v : View Part) (c : MapCargo) (w k : ℕ) (e : Entry) → All (λ s. s.place ≢ number_word c v) (row_stores v c w e k)
@@ -50,16 +62,10 @@ unfolding row_stores
 row_aside v c w zero e = All-nil (λ (s : StepEntry). s.place ≢ number_word c v)
 row_aside v c w (suc k) e = All-cons (λ (s : StepEntry). s.place ≢ number_word c v) (cargo_step v StoreCargo (log_place c w k) (slice_index (log_words e) k) true) (row_stores v c w e k) (λ same. omega arith) (row_aside v c w k e)
 
-row_stood : (v : View Part) (c : MapCargo) (w k lock : ℕ) (e : Entry) (now : Standing) → lock < v.shape.locks → stood_at (place_of v lock) (row_stores v c w e k) now ≡ now
+row_stood : (v : View Part) (c : MapCargo) (w k lock : ℕ) (e : Entry) (now : Standing) → stood_at lock (row_stores v c w e k) now ≡ now
 unfolding row_stores
-row_stood v c w zero lock e now near = refl
-row_stood v c w (suc k) lock e now near =
-    let s : StepEntry = cargo_step v StoreCargo (log_place c w k) (slice_index (log_words e) k) true in
-    ap (stood_at (place_of v lock) (row_stores v c w e k)) (elsewhere_stood (place_of v lock) s now (λ same. omega arith)) ∙ row_stood v c w k lock e now near
-
--- a lock at which a pass holds a mode is one of the hall's
-held_near : (v : View Part) (locks k : ℕ) → length v.standings ≡ locks → mode_of (standing v k) ≢ None → k < locks
-held_near v locks k size held = dite (dec_lt k locks) (λ low. low) (λ no. absurd (held (ap mode_of (get_or_past v.standings k Away (omega arith)))))
+row_stood v c w zero lock e now = refl
+row_stood v c w (suc k) lock e now = row_stood v c w k lock e now
 
 -- a read that was placed: its one step loaded the number word
 pub placed_read : (c : MapCargo) (v w : View Part) (q : Query) (said : Said) (n : ℕ) → Alike v w → HoldsFor q said v → is_write said ≡ false → 2 * n ≡ history.place_of n said → w.steps ≡ cargo_step v LoadCargo (number_place c) n false ∷ v.steps
@@ -78,9 +84,9 @@ placed_read c v w q said n alike holds reads place is = record {
 }
 
 -- a write that was drawn: its step drew the number, and then its log row was stored
-pub placed_write : (c : MapCargo) (v w : View Part) (q : Query) (said : Said) (n : ℕ) (e : Entry) → Stays v w → HoldsFor q said v → length v.standings ≡ v.shape.locks → mode_for q said ≡ exclusive_mode → is_write said ≡ true → 2 * n + 1 ≡ history.place_of n said
+pub placed_write : (c : MapCargo) (v w : View Part) (q : Query) (said : Said) (n : ℕ) (e : Entry) → Stays v w → HoldsFor q said v → is_write said ≡ true → 2 * n + 1 ≡ history.place_of n said
     → w.steps ≡ row_stores v c n e 8 ++ (cargo_step v AddCargo (number_place c) n true ∷ v.steps) → PlacedUnder c v w q (2 * n + 1) said
-placed_write c v w q said n e stays holds size mode writes place is = record {
+placed_write c v w q said n e stays holds writes place is = record {
   newer = row_stores v c n e 8;
   step = cargo_step v AddCargo (number_place c) n true;
   older = [];
@@ -90,12 +96,7 @@ placed_write c v w q said n e stays holds size mode writes place is = record {
   at = ap (λ (s : Shape). s.slots + s.locks + number_place c) (sym stays.shape);
   tells = place;
   last = subst (λ (s : Shape). All (λ (x : StepEntry). x.place ≢ s.slots + s.locks + number_place c) (row_stores v c n e 8)) (sym stays.shape) (row_aside v c n 8 e);
-  held = λ cell has.
-      let m : mode_of (standing v cell) ≡ mode_for q said = holds.each cell has in
-      let near : cell < v.shape.locks = held_near v v.shape.locks cell size (λ none. (let bad : None ≡ exclusive_mode = sym none ∙ m ∙ mode in cc)) in
-      ap (λ (s : Shape). mode_of (stood_at (s.slots + cell) (row_stores v c n e 8) (standing w cell))) stays.shape
-      ∙ ap mode_of (row_stood v c n 8 cell e (standing w cell) near)
-      ∙ ap (λ (l : List Standing). mode_of (slice_index_or l cell Away)) stays.standings ∙ m;
+  held = λ cell has. ap mode_of (row_stood v c n 8 cell e (standing w cell)) ∙ ap (λ (l : List Standing). mode_of (slice_index_or l cell Away)) stays.standings ∙ holds.each cell has;
 }
 
 -- a reply after steps that placed none
@@ -131,10 +132,7 @@ placed_before c v u w q place said h more = record {
   at = h.at ∙ ap (λ (s : Shape). s.slots + s.locks + number_place c) (sym more.shape);
   tells = h.tells;
   last = subst (λ (s : Shape). All (λ (x : StepEntry). x.place ≢ s.slots + s.locks + number_place c) (more.added ++ h.newer)) (sym more.shape) (All-append (λ (x : StepEntry). x.place ≢ number_word c u) more.added h.newer more.aside h.last);
-  held = λ cell has.
-      ap (λ (s : Shape). mode_of (stood_at (s.slots + cell) (more.added ++ h.newer) (standing w cell))) more.shape
-      ∙ ap mode_of (stood_append (place_of u cell) more.added h.newer (standing w cell) ∙ ap (stood_at (place_of u cell) h.newer) (more.back cell))
-      ∙ h.held cell has;
+  held = λ cell has. ap mode_of (stood_append cell more.added h.newer (standing w cell) ∙ ap (stood_at cell h.newer) (more.back cell)) ∙ h.held cell has;
 }
 
 pub placing_then : (c : MapCargo) (v u w : View Part) (q : Query) (reply : Reply) → is_job reply ≡ false → IsPlacedUnder c v u q reply → LeadsBack c u w → IsPlacedUnder c v w q reply
@@ -143,28 +141,30 @@ placing_then c v u w q Busy maps h more = more_then v u w h record { added = mor
 placing_then c v u w q (Late now) maps h more = more_then v u w h record { added = more.added; stand = more.stand }
 placing_then c v u w q (Job at result) maps h more = absurd (cc)
 
--- one step on a lock's word leads back
-pub leads_once : (c : MapCargo) (v w : View Part) (kind : Kind) (lock word : ℕ) (won : Bool) → lock < v.shape.locks → w.shape ≡ v.shape → ElsewhereSame v w lock → w.steps ≡ entry_of v kind lock word won ∷ v.steps → LeadsBack c v w
-leads_once c v w kind lock word won near shape same is =
-    let e : StepEntry = entry_of v kind lock word won in record {
+-- one step for a lock, on its word or on a slot, leads back
+pub leads_once_at : (c : MapCargo) (v w : View Part) (kind : Kind) (lock place word : ℕ) (won : Bool) → is_of_lock kind ≡ true → place < v.shape.slots + v.shape.locks → w.shape ≡ v.shape → ElsewhereSame v w lock → w.steps ≡ entry_at v kind lock place word won ∷ v.steps → LeadsBack c v w
+leads_once_at c v w kind lock place word won of near shape same is =
+    let e : StepEntry = entry_at v kind lock place word won in record {
       shape = shape;
       added = e ∷ [];
       stand = is;
       aside = All-cons (λ (x : StepEntry). x.place ≢ number_word c v) e [] (λ at. omega arith) (All-nil (λ (x : StepEntry). x.place ≢ number_word c v));
       back = λ k. dite (ℕ_discrete k lock)
-          (λ here. ap (λ (b : Bool). cond b (standing v lock) (standing w k)) (eq-eqb (place_of v lock) (place_of v k) (ap (λ (i : ℕ). v.shape.slots + i) (sym here))) ∙ ap (λ (i : ℕ). standing v i) (sym here))
-          (λ ne. elsewhere_stood (place_of v k) e (standing w k) (λ at. ne (omega arith)) ∙ same k ne);
+          (λ here. here_stood k e (standing w k) of (sym here) ∙ ap (λ (i : ℕ). standing v i) (sym here))
+          (λ ne. elsewhere_stood k e (standing w k) of (λ at. ne (sym at)) ∙ same k ne);
     }
 
+pub leads_once : (c : MapCargo) (v w : View Part) (kind : Kind) (lock word : ℕ) (won : Bool) → is_of_lock kind ≡ true → lock < v.shape.locks → w.shape ≡ v.shape → ElsewhereSame v w lock → w.steps ≡ entry_of v kind lock word won ∷ v.steps → LeadsBack c v w
+leads_once c v w kind lock word won of near shape same is = leads_once_at c v w kind lock (place_of v lock) word won of (omega arith) shape same is
+
+-- steps that lead back, one after the other
 pub leads_then : (c : MapCargo) (v u w : View Part) → LeadsBack c v u → LeadsBack c u w → LeadsBack c v w
 leads_then c v u w a b = record {
   shape = b.shape ∙ a.shape;
   added = b.added ++ a.added;
   stand = b.stand ∙ ap (λ (l : List StepEntry). b.added ++ l) a.stand ∙ sym (append_assoc b.added a.added v.steps);
   aside = All-append (λ (x : StepEntry). x.place ≢ number_word c v) b.added a.added (subst (λ (s : Shape). All (λ (x : StepEntry). x.place ≢ s.slots + s.locks + number_place c) b.added) a.shape b.aside) a.aside;
-  back = λ k. stood_append (place_of v k) b.added a.added (standing w k)
-      ∙ ap (stood_at (place_of v k) a.added) (subst (λ (s : Shape). stood_at (s.slots + k) b.added (standing w k) ≡ standing u k) a.shape (b.back k))
-      ∙ a.back k;
+  back = λ k. stood_append k b.added a.added (standing w k) ∙ ap (stood_at k a.added) (b.back k) ∙ a.back k;
 }
 
 -- a pass that holds one cell alone holds all that a placed reply to its query speaks of in the mode of its hold
@@ -177,3 +177,21 @@ holds_one v lock q said y holds only some mode = record {
 
 pub holds_upgrade : (v : View Part) (lock : ℕ) (q : Query) (said : Said) → standing v lock ≡ Upgrade → ((k : ℕ) → k ≢ lock → standing v k ≡ Away) → ((k : ℕ) → Has (spoken_cells q) k → mode_of (standing v k) ≢ None) → mode_for q said ≡ upgrade_mode → HoldsFor q said v
 holds_upgrade v lock q said upgrade only some mode = holds_one v lock q said Upgrade upgrade only some mode
+
+-- a reader that leaves its cell leads back, whatever form its hold had
+module _ (g : Ghosts MapCargo Part) (c : MapCargo) (v w : View Part) (lock : ℕ) (near : lock < v.shape.locks) (same : ElsewhereSame v w lock) where
+  counted_back : (u : View Part) (found : ℕ) → u.shape ≡ v.shape → ElsewhereSame u w lock → GivesBack g u lock found w → LeadsBack c u w
+  counted_back u found shape still b =
+      leads_once c u w kinds.Lower lock found true refl (subst (λ (s : Shape). lock < s.locks) (sym shape) near) (ap (λ (z : View Part). z.shape) b.0) still (ap (λ (z : View Part). z.steps) b.0)
+
+  slot_back : (slot : ℕ) (ended : Withdrawn) → slot < v.shape.slots → LeavesAs g v lock slot ended w → LeadsBack c v w
+  slot_back slot Cleared in_slots l = leads_once_at c v w kinds.LeaveSlot lock slot (lock + 1) true refl (omega arith) (ap (λ (z : View Part). z.shape) l.0) same (ap (λ (z : View Part). z.steps) l.0)
+  slot_back slot GaveBack in_slots l =
+      let u : View Part = l.0 in let missed = l.3.0 in let shape : u.shape ≡ v.shape = ap (λ (z : View Part). z.shape) missed in
+      let stays : ElsewhereSame v u lock = λ k ne. ap (λ (z : View Part). standing z k) missed ∙ get_or-set_other v.standings lock k Inline Away ne in
+      leads_then c v u w (leads_once_at c v u kinds.LeaveSlot lock slot l.1 false refl (omega arith) shape stays (ap (λ (z : View Part). z.steps) missed)) (counted_back u l.4.0 shape (λ k ne. same k ne ∙ sym (stays k ne)) l.4.1)
+
+  pub leads_left : (form : Form) → IsFormOf v.shape.slots form → LeavesShared g v lock form w → LeadsBack c v w
+  leads_left (forms.Deferred slot) in_slots l = slot_back slot l.0 in_slots l.1
+  leads_left (forms.Inline why) in_slots l = counted_back v l.0 refl same l.1
+  leads_left forms.Lowered in_slots l = counted_back v l.0 refl same l.1

@@ -152,9 +152,9 @@ read_follows c v w index q said n may is rested = record {
 }
 
 -- a write that was drawn was told
-pub write_told : (c : MapCargo) (v w : View Part) (index : ℕ) (q : Query) (said : Said) (n : ℕ) → MayDraw c v (entry_for v.number index q said) → Stays v w → Drew 8 v.part w.part n (entry_for v.number index q said) → w.quota + 1 ≡ v.quota → mode_for q said ≡ exclusive_mode → length v.standings ≡ v.shape.locks
+pub write_told : (c : MapCargo) (v w : View Part) (index : ℕ) (q : Query) (said : Said) (n : ℕ) → MayDraw c v (entry_for v.number index q said) → Stays v w → Drew 8 v.part w.part n (entry_for v.number index q said) → w.quota + 1 ≡ v.quota → mode_for q said ≡ exclusive_mode
     → w.steps ≡ row_stores v c n (entry_for v.number index q said) 8 ++ (cargo_step v AddCargo (number_place c) n true ∷ v.steps) → Tells c v w index q (Placed (2 * n + 1) said)
-write_told c v w index q said n may stays drew quota mode size steps = record {
+write_told c v w index q said n may stays drew quota mode steps = record {
   number = stays.number;
   span = stays.span;
   taken = stays.taken;
@@ -162,7 +162,7 @@ write_told c v w index q said n may stays drew quota mode size steps = record {
   kind = said_kind c.rows (plain_of v.part) q said may.said;
   of_maps = refl;
   told = (n, place_write_at n said may.writes, drew.fresh, chosen_true (is_write said) _ _ may.writes (drew.seen, drew.told));
-  placing = placed_write c v w q said n (entry_for v.number index q said) stays (holds_written v q said mode may.holds) size mode may.writes (place_write_at n said may.writes) steps;
+  placing = placed_write c v w q said n (entry_for v.number index q said) stays (holds_written v q said mode may.holds) may.writes (place_write_at n said may.writes) steps;
 }
 
 pub write_follows : (c : MapCargo) (v w : View Part) (index : ℕ) (q : Query) (said : Said) (n : ℕ) → MayDraw c v (entry_for v.number index q said) → Drew 8 v.part w.part n (entry_for v.number index q said) → Follows v w q said

@@ -49,7 +49,7 @@ reads_more v u w lock number shape a b =
 
 module _ (g : Ghosts MapCargo Part) (v w : View Part) (lock : ℕ) (away : standing v lock ≡ Away) (fault : TryFault) (expected found : ℕ) (is : fault ≡ Raced expected found) where
   pub raced_read : RefusesShared g v lock w fault → AddsSteps (IsTrySuch (λ e. refuses_reader v.shape.policy e ≡ false) v lock) v w
-  raced_read r = reader_raced g v w lock away expected found (subst (λ (f : TryFault). RefusesShared g v lock w f) is r)
+  raced_read r = reader_raced g v lock away expected found w (subst (λ (f : TryFault). RefusesShared g v lock w f) is r)
 
   pub raced_write : RefusesExclusive g v lock w fault → AddsSteps (IsTrySuch (λ e. refuses_writer e ≡ false) v lock) v w
   raced_write r = writer_raced g v w lock away expected found (subst (λ (f : TryFault). RefusesExclusive g v lock w f) is r)

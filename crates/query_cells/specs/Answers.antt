@@ -8,7 +8,7 @@ use Rattle.hall.specs.declared.view.Standing.{Standing}
 use Rattle.hall.specs.declared.view.Standing.TheVariants.{Away}
 use Rattle.hall.specs.Cargo.{exclusive_mode}
 use Rattle.hall.specs.Treading.{IsAt, IsWeakAt}
-use Rattle.hall.specs.Views.{standing, mode_of, place_of}
+use Rattle.hall.specs.Views.{standing, mode_of}
 use Rattle.query_rules.specs.declared.query.Query.{Query}
 use Rattle.query_rules.specs.declared.query.Query.TheVariants.{Get, Len, Put, Del, Add, Cas, PutLen, TryGet, TryPut, GetBy, PutBy}
 use Rattle.query_rules.specs.declared.query.Said.{Said}
@@ -54,7 +54,7 @@ pub record LeadsBack (c : MapCargo) (v w : View Part) : Type 0 where
   pub added : List StepEntry
   pub stand : w.steps ≡ added ++ v.steps
   pub aside : All (λ (e : StepEntry). e.place ≢ number_word c v) added
-  pub back : (lock : ℕ) → stood_at (place_of v lock) added (standing w lock) ≡ standing v lock
+  pub back : (lock : ℕ) → stood_at lock added (standing w lock) ≡ standing v lock
 
 -- the pass holds each cell that this reply to the query speaks of in the mode for it
 pub record HoldsFor (q : Query) (said : Said) (v : View Part) : Type 0 where

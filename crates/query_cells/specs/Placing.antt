@@ -1,14 +1,14 @@
 -- Under which mode a reply was placed, read off the steps of the call that placed it.
-use Rattle.std.specs.Prelude.{◌≡◌, ◌≢◌, ℕ, ◌+◌, ◌<◌, cond, eqb, List, [], ◌∷◌, ◌++◌, All, Option, None}
+use Rattle.std.specs.Prelude.{◌≡◌, ◌≢◌, ℕ, ◌+◌, ◌<◌, ◌&&◌, Bool, true, false, cond, eqb, List, [], ◌∷◌, ◌++◌, All, Option, None}
 use Rattle.lock_model.specs.Locks.{Has}
 use Rattle.lock_model.specs.declared.model.Mode.{Mode}
 use Rattle.hall.specs.declared.view.View.{View}
-use Rattle.hall.specs.declared.view.Kind.TheVariants.{LoadCargo, AddCargo}
+use Rattle.hall.specs.declared.view.Kind.{Kind}
+use Rattle.hall.specs.declared.view.Kind.TheVariants.{LoadCargo, StoreCargo, AddCargo, Split, Join}
 use Rattle.hall.specs.declared.view.StepEntry.{StepEntry}
 use Rattle.hall.specs.declared.view.Standing.{Standing}
 use Rattle.hall.specs.Cargo.{shared_mode, upgrade_mode, exclusive_mode}
 use Rattle.hall.specs.Views.{standing, mode_of}
-use Rattle.hall.specs.Views as views
 use Rattle.query_rules.specs.declared.query.Query.{Query}
 use Rattle.query_rules.specs.declared.query.Query.TheVariants.{Get, Len, Put, Del, Add, Cas, PutLen, Move, Both, TryGet, TryPut, GetBy, PutBy, Give, Take, Audit}
 use Rattle.query_rules.specs.declared.query.Said.{Said}
@@ -41,10 +41,19 @@ mode_for (Give key n) said = None
 mode_for (Take key n) said = None
 mode_for Audit said = None
 
--- The standing at a word of the table before these steps, the newest first, where it is `now` after them: each step on the word tells the standing before it
+-- a step for a lock, on its word or on a slot, and no step on a word of the cargo
+abbrev pub is_of_lock : Kind → Bool
+is_of_lock LoadCargo = false
+is_of_lock StoreCargo = false
+is_of_lock AddCargo = false
+is_of_lock Split = false
+is_of_lock Join = false
+is_of_lock kind = true
+
+-- The standing at a lock before these steps, the newest first, where it is `now` after them: each step for the lock tells the standing before it
 abbrev pub stood_at : ℕ → List StepEntry → Standing → Standing
-stood_at place [] now = now
-stood_at place (e ∷ older) now = stood_at place older (cond (eqb e.place place) e.before now)
+stood_at lock [] now = now
+stood_at lock (e ∷ older) now = stood_at lock older (cond (is_of_lock e.kind && eqb e.lock lock) e.before now)
 
 -- where the hall's table has the number word
 abbrev pub number_word : MapCargo → View Part → ℕ
@@ -61,7 +70,7 @@ pub record PlacedUnder (c : MapCargo) (v w : View Part) (q : Query) (place : ℕ
   pub at : step.place ≡ number_word c w
   pub tells : place ≡ place_of step.word said
   pub last : All (λ (e : StepEntry). e.place ≢ number_word c w) newer
-  pub held : (cell : ℕ) → Has (spoken_cells q) cell → mode_of (stood_at (views.place_of w cell) newer (standing w cell)) ≡ mode_for q said
+  pub held : (cell : ℕ) → Has (spoken_cells q) cell → mode_of (stood_at cell newer (standing w cell)) ≡ mode_for q said
 
 -- which step placed a reply, and under which mode; a refused one and a job's were placed by none
 abbrev pub IsPlacedUnder : MapCargo → View Part → View Part → Query → Reply → Type 0

@@ -1,10 +1,12 @@
 //! Taking a cell by a try or until a deadline, which may be refused.
 ghost use Rattle.std.specs.Prelude.{◌≡◌, ◌≢◌, ◌<◌, ◌≤◌, ◌⊎◌, ℕ, MatchOption, MatchResult, ⊤, false};
+ghost use Rattle.hall.specs.Fitting.{SharedFits, stands_by};
 ghost use Rattle.hall.specs.Passes.{view, IsPassOf, shape_of};
 ghost use Rattle.hall.specs.Refusals.{BusyForReading, BusyForWriting, ReadTwoWords};
+ghost use Rattle.hall.specs.Slotting.{HasNonePending};
 ghost use Rattle.hall.specs.Treading.{IsAt, IsWeakAt, Treads};
 ghost use Rattle.hall.specs.Views.{standing};
-ghost use Rattle.hall.specs.declared.view.Standing.TheVariants.{Away, Inline, Exclusive};
+ghost use Rattle.hall.specs.declared.view.Standing.TheVariants.{Away, Exclusive};
 ghost use Rattle.shared_mutex.specs.Refused.{AddsReads};
 ghost use Rattle.sync_cell.specs.Gains.{GainedBy, refuses_reader, refuses_writer};
 ghost use Rattle.sync_cell.specs.Waits.{AskedInTime, AskedTooLate};
@@ -28,9 +30,11 @@ pub(crate) fn try_to_read<R: Wait>(
     requires pass { IsPassOf hall.now pass.old }
     requires cell { cell < (shape_of hall.now).locks }
     requires away { standing (view pass.old) cell ≡ Away }
+    requires clear { HasNonePending (view pass.old) }
     ensures pass { IsPassOf hall.now pass.new }
     ensures trail { Treads (IsWeakAt cell) (view pass.old) (view pass.new) }
-    ensures taken { MatchOption result (TurnedAway cell (view pass.old) (view pass.new)) (λ ptr. (ptr.guard.lock ≡ cell) × Took cell Inline (view pass.old) (view pass.new)) }
+    ensures taken { MatchOption result (TurnedAway cell (view pass.old) (view pass.new)) (λ ptr. (ptr.guard.lock ≡ cell) × Took cell (stands_by ptr.guard.form) (view pass.old) (view pass.new)) }
+    ensures fits { MatchOption result ⊤ (λ ptr. SharedFits (shape_of hall.now) (view pass.new) ptr.guard) }
     ensures tries { MatchOption result ⊤ (λ _. AddsReads (λ shape number added. GainedBy (λ e. refuses_reader shape.policy e ≡ false) cell number added) (view pass.old) (view pass.new)) }
     ensures busy { MatchOption result (AddsReads (λ shape number added. BusyForReading shape number added cell) (view pass.old) (view pass.new)) (λ _. ⊤) }
 {
@@ -84,9 +88,11 @@ pub(crate) fn read_until<R: Wait, T: Clock>(
     requires pass { IsPassOf hall.now pass.old }
     requires cell { cell < (shape_of hall.now).locks }
     requires away { standing (view pass.old) cell ≡ Away }
+    requires clear { HasNonePending (view pass.old) }
     ensures pass { IsPassOf hall.now pass.new }
     ensures trail { Treads (IsWeakAt cell) (view pass.old) (view pass.new) }
-    ensures taken { MatchResult result (λ ptr. (ptr.guard.lock ≡ cell) × Took cell Inline (view pass.old) (view pass.new)) (λ _. TurnedAway cell (view pass.old) (view pass.new)) }
+    ensures taken { MatchResult result (λ ptr. (ptr.guard.lock ≡ cell) × Took cell (stands_by ptr.guard.form) (view pass.old) (view pass.new)) (λ _. TurnedAway cell (view pass.old) (view pass.new)) }
+    ensures fits { MatchResult result (λ ptr. SharedFits (shape_of hall.now) (view pass.new) ptr.guard) (λ _. ⊤) }
     ensures late { MatchResult result (λ _. ⊤) (λ now. (deadline ≤ now) × (now ≡ T.last clock.new)) }
     ensures clock { MatchResult result (λ _. (refusals : ℕ) × AskedInTime T.last T.answers deadline refusals clock.old clock.new) (λ now. (refusals : ℕ) × AskedTooLate T.last T.answers deadline refusals clock.old clock.new now) }
     ensures reads { MatchResult result (λ _. ⊤) (λ _. AddsReads (λ shape number added. BusyForReading shape number added cell ⊎ ReadTwoWords shape number added cell) (view pass.old) (view pass.new)) }

@@ -1,9 +1,11 @@
 //! Taking a cell and giving it back, as the maps see it.
 ghost use Rattle.std.specs.Prelude.{◌≡◌, ◌≢◌, ◌<◌, ℕ};
+ghost use Rattle.hall.specs.Fitting.{SharedFits, stands_by};
 ghost use Rattle.hall.specs.Passes.{view, IsPassOf, shape_of, cargo_of};
+ghost use Rattle.hall.specs.Slotting.{HasNonePending};
 ghost use Rattle.hall.specs.Treading.{IsAt, IsWeakAt, Treads};
 ghost use Rattle.hall.specs.Views.{standing};
-ghost use Rattle.hall.specs.declared.view.Standing.TheVariants.{Away, Inline, Upgrade, Exclusive};
+ghost use Rattle.hall.specs.declared.view.Standing.TheVariants.{Away, Upgrade, Exclusive};
 ghost use Rattle.shared_mutex.specs.Acquiring.{ElsewhereSame};
 ghost use Rattle.shared_mutex.specs.Refused.{AddsReads};
 ghost use Rattle.shared_mutex.specs.Tries.{AddsSteps};
@@ -30,8 +32,11 @@ pub(crate) fn hold_for_reading<R: Wait>(
     requires pass { IsPassOf hall.now pass.old }
     requires cell { cell < (shape_of hall.now).locks }
     requires away { standing (view pass.old) cell ≡ Away }
+    requires clear { HasNonePending (view pass.old) }
     ensures pass { IsPassOf hall.now pass.new }
-    ensures held { (result.guard.lock ≡ cell) × (standing (view pass.new) cell ≡ Inline) }
+    ensures held { (result.guard.lock ≡ cell) × (standing (view pass.new) cell ≡ stands_by result.guard.form) }
+    ensures fits { SharedFits (shape_of hall.now) (view pass.new) result.guard }
+    ensures clear { HasNonePending (view pass.new) }
     ensures elsewhere { ElsewhereSame (view pass.old) (view pass.new) cell }
     ensures gained { Gained cell (view pass.old) (view pass.new) }
     ensures tries { AddsReads (λ shape number added. GainedBy AnyStep cell number added) (view pass.old) (view pass.new) }
@@ -102,11 +107,9 @@ pub(crate) fn hold_for_writing<R: Wait>(
 }
 
 /// Gives a cell back that was held for reading.
-#[tactic(auto, using(crate::proofs::Placing::leads_once))]
 pub(crate) fn leave_reading(hall: &Hall<MapCargo>, pass: &mut Pass<MapCargo>, ptr: ReadPtr)
     requires pass { IsPassOf hall.now pass.old }
-    requires cell { ptr.guard.lock < (shape_of hall.now).locks }
-    requires held { standing (view pass.old) ptr.guard.lock ≡ Inline }
+    requires fits { SharedFits (shape_of hall.now) (view pass.old) ptr.guard }
     ensures pass { IsPassOf hall.now pass.new }
     ensures away { standing (view pass.new) ptr.guard.lock ≡ Away }
     ensures elsewhere { ElsewhereSame (view pass.old) (view pass.new) ptr.guard.lock }

@@ -1,9 +1,11 @@
 //! Queries that read one cell, from the lock to its release.
 ghost use Rattle.std.specs.Prelude.{◌≡◌, ◌≢◌, ◌<◌, MatchResult, None, Some, ⊤, true, false};
+ghost use Rattle.hall.specs.Fitting.{SharedFits, stands_by};
 ghost use Rattle.hall.specs.Passes.{view, IsPassOf, shape_of, cargo_of};
+ghost use Rattle.hall.specs.Slotting.{HasNonePending};
 ghost use Rattle.hall.specs.Treading.{IsWeakAt, Treads};
 ghost use Rattle.hall.specs.Views.{standing, mode_of};
-ghost use Rattle.hall.specs.declared.view.Standing.TheVariants.{Away, Inline};
+ghost use Rattle.hall.specs.declared.view.Standing.TheVariants.{Away};
 ghost use Rattle.query_rules.specs.declared.query.Reply.{Reply};
 ghost use Rattle.query_rules.specs.Maps.{is_write, reply_of};
 ghost use Rattle.map_cargo.specs.History.{plain_of, IsSettled, IsRested};
@@ -66,9 +68,11 @@ fn hold_to_read<R: Wait, T: Clock>(
     requires asks { reads_cell query.now ≡ true }
     requires cell { cell_of query.now < (shape_of hall.now).locks }
     requires away { standing (view pass.old) (cell_of query.now) ≡ Away }
+    requires clear { HasNonePending (view pass.old) }
     ensures pass { IsPassOf hall.now pass.new }
     ensures trail { Treads (IsWeakAt (cell_of query.now)) (view pass.old) (view pass.new) }
-    ensures taken { MatchResult result (λ ptr. (ptr.guard.lock ≡ cell_of query.now) × Took (cell_of query.now) Inline (view pass.old) (view pass.new)) (λ _. TurnedAway (cell_of query.now) (view pass.old) (view pass.new)) }
+    ensures taken { MatchResult result (λ ptr. (ptr.guard.lock ≡ cell_of query.now) × Took (cell_of query.now) (stands_by ptr.guard.form) (view pass.old) (view pass.new)) (λ _. TurnedAway (cell_of query.now) (view pass.old) (view pass.new)) }
+    ensures fits { MatchResult result (λ ptr. SharedFits (shape_of hall.now) (view pass.new) ptr.guard) (λ _. ⊤) }
     ensures tries { MatchResult result (λ _. (reply : Reply) → GoesByTries query.now reply (view pass.old) (view pass.new)) (λ _. ⊤) }
     ensures refused { MatchResult result (λ _. ⊤) (λ reply. (is_granted reply ≡ false) × WasRefused query.now reply (view pass.old) (view pass.new)) }
     ensures late { MatchResult result (λ _. ⊤) (λ reply. IsLateBy query.now (T.last clock.new) reply) }
@@ -102,7 +106,7 @@ fn answer_read(
     requires asks { reads_cell query.now ≡ true }
     requires at { ptr.guard.lock ≡ cell_of query.now }
     requires cell { (cell_of query.now < (cargo_of hall.now).cells) × (cell_of query.now < (shape_of hall.now).locks) }
-    requires held { standing (view pass.old) ptr.guard.lock ≡ Inline }
+    requires fits { SharedFits (shape_of hall.now) (view pass.old) ptr.guard }
     requires only { OnlyAt (cell_of query.now) (view pass.old) }
     requires settled { IsSettled (cell_of query.now) (view pass.old).part }
     requires rested { IsRested (view pass.old).part }

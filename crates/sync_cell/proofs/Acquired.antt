@@ -7,6 +7,7 @@ use Rattle.apply_deferred.specs.Sweeping.{Sweeps}
 use Rattle.apply_deferred.specs.SweepLaws.{AllSweeping, is_sweeping, same_mode, sweep_goes}
 use Rattle.std.proofs.lemmas.List.Elements.{All-nil, All-cons}
 use Rattle.hall.specs.declared.cargo.CargoRule.{Ghosts}
+use Rattle.hall.specs.declared.guards.Form.{Form}
 use Rattle.hall.specs.declared.guards.TryFault.{TryFault}
 use Rattle.hall.specs.declared.view.Kind.{Kind}
 use Rattle.hall.specs.declared.view.Kind.TheVariants as kinds
@@ -17,10 +18,12 @@ use Rattle.hall.specs.declared.view.View.{View}
 use Rattle.hall.specs.Plays.{Retracts}
 use Rattle.hall.specs.Cargo.{upgrade_mode}
 use Rattle.hall.specs.Views.{after_look, after_step, entry_of, mode_of, standing}
-use Rattle.shared_mutex.specs.Tries.{AddsSteps, AnnouncesAtLast, EntersAtLast, HoldsAtLast, IsLook, IsPatientTry, IsTry, OnlyLooked, is_retract}
+use Rattle.shared_mutex.specs.Tries.{AddsSteps, AnnouncesAtLast, HoldsAtLast, IsLook, IsPatientTry, IsTry, OnlyLooked, is_retract}
 use Rattle.upgrade_mode.specs.Tries.{BeginsAtLast, EntersUpgradeAtLast, HoldsUpAtLast}
 use Rattle.sync_cell.specs.Rising.{IsPatient, IsPatientRise}
+use Rattle.shared_mutex.specs.Entering.{enters_last, enters_patiently}
 use Rattle.shared_mutex.specs.TryLaws.{adds_as, adds_then, looked_once, looked_then, stands_still}
+use Rattle.sync_cell.specs.Attempts.{ReadsAtLast}
 
 module _ {P : Type 0} where
   -- it is the same pass of the same hall
@@ -50,7 +53,7 @@ module _ {P : Type 0} (held : Option Mode) where
       adds_then (IsPatient held v lock) v u w a (adds_as (IsPatient held u lock) (IsPatient held v lock) u w (λ e p. ((p.0.0 ∙ kept.0, p.0.1, p.0.2), p.1)) b)
 
   looks : (v w : View P) (lock : ℕ) → mode_of (standing v lock) ≡ held → OnlyLooked v lock w → AddsSteps (IsPatient held v lock) v w
-  looks v w lock holds looked = adds_as (IsLook v lock) (IsPatient held v lock) v w (λ e p. ((p.0, p.5, ap mode_of p.2 ∙ holds), p.4)) looked.steps
+  looks v w lock holds looked = adds_as (IsLook v lock) (IsPatient held v lock) v w (λ e p. ((p.0, p.1, p.2 ∙ holds), p.3)) looked.steps
 
   step : (v w : View P) (kind : Kind) (lock word : ℕ) (y : Standing) (part : P) → mode_of (standing v lock) ≡ held → is_retract kind ≡ false → w ≡ after_step v kind lock word true y part → AddsSteps (IsPatient held v lock) v w
   step v w kind lock word y part holds patient is =
@@ -85,8 +88,10 @@ module _ {P : Type 0} where
   patient_looks v w lock free looked = looks None v w lock free looked
 
 module _ {C P : Type 0} (g : Ghosts C P) (v : View P) (lock : ℕ) (away : standing v lock ≡ Away) where
-  pub patient_reader : (faults : List TryFault) (w : View P) → EntersAtLast g v lock faults w → AddsSteps (IsPatientTry v lock) v w
-  patient_reader faults w e = (tries_step None v e.0 w kinds.Enter lock e.3.0 _ e.3.2.0.1 (ap mode_of away) e.2 refl e.3.2.0.3).1
+  pub patient_reader : (faults : List TryFault) (form : Form) (w : View P) → ReadsAtLast g v lock form faults w → AddsSteps (IsPatientTry v lock) v w
+  patient_reader faults form w e =
+      let u : View P = e.0 in let still : standing u lock ≡ Away = stands_still v u lock e.2 ∙ away in
+      patient_then None v u w lock (kept_looked v u lock e.2) (patient_looks v u lock (ap mode_of away) e.2) (enters_patiently g u w lock still (enters_last g u w lock still (form, e.3)))
 
   pub patient_upgrader : (faults : List TryFault) (w : View P) → EntersUpgradeAtLast g v lock faults w → AddsSteps (IsPatientTry v lock) v w
   patient_upgrader faults w e = (tries_step None v e.0 w kinds.UpgradeIn lock e.3.0 _ e.3.2.0.1 (ap mode_of away) e.2 refl e.3.2.0.3).1

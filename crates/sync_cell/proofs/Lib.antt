@@ -1,5 +1,6 @@
 mod Acquired
 mod Counted
+mod Entering
 mod InTime
 mod Swept
 mod Tried

@@ -1,4 +1,4 @@
--- One try as an attempt, whichever way it ended.
+-- One try for upgrade as an attempt, whichever way it ended.
 use Rattle.std.specs.Prelude.{◌≡◌, ℕ, ◌+◌, [], Some, None, Ok, Err, IfOk, IfErr, MatchResult}
 use Rattle.std.specs.Result.{result_err}
 use Rattle.std.specs.declared.result.Result.{Result}
@@ -10,12 +10,12 @@ use Rattle.hall.specs.declared.view.View.{View}
 use Rattle.hall.specs.declared.view.Standing.{Standing}
 use Rattle.hall.specs.declared.view.Standing.TheVariants.{Away}
 use Rattle.hall.specs.Views.{standing}
-use Rattle.shared_mutex.specs.Acquiring.{ElsewhereSame, RefusesShared, TakesShared}
+use Rattle.shared_mutex.specs.Acquiring.{ElsewhereSame}
 use Rattle.shared_mutex.specs.TryLaws.{looked_none}
 use Rattle.upgrade_mode.specs.Holding.{EntersUpgrade, RefusesUpgrade}
 use Rattle.upgrade_mode.specs.Tries.{MissesBeginning}
 use Rattle.sync_cell.specs.Attempts.{HasWon, StillRefused, last_fault}
-use Rattle.sync_cell.proofs.Counted.{loads, entering_counts, reader_counts, upgrader_counts, upgrading_counts}
+use Rattle.sync_cell.proofs.Counted.{loads, upgrader_counts, upgrading_counts}
 
 module _ {P G : Type 0} (misses : View P → View P → TryFault → Type 0) (wins : View P → View P → Type 0) (v w : View P) (names : G → Type 0) where
   abbrev pub Tried : Result G TryFault → Type 0
@@ -40,23 +40,9 @@ module _ {P G : Type 0} (misses : View P → View P → TryFault → Type 0) (wi
   tried_refused (Err f) t = ([], (v, refl, t))
 
 module _ {C P G : Type 0} (g : Ghosts C P) (v : View P) (lock : ℕ) (w : View P) (names : G → Type 0) where
-  reader_faults : (f : TryFault) → RefusesShared g v lock w f → last_fault w.steps ≡ Some f
-  reader_faults (Busy word) r = ap (λ (z : View P). last_fault z.steps) r.1
-  reader_faults (Raced expected found) r = ap (λ (z : View P). last_fault z.steps) r.1
-
   upgrader_faults : (f : TryFault) → RefusesUpgrade g v lock w f → last_fault w.steps ≡ Some f
   upgrader_faults (Busy word) r = ap (λ (z : View P). last_fault z.steps) r.1
   upgrader_faults (Raced expected found) r = ap (λ (z : View P). last_fault z.steps) r.1
-
-  -- tries to enter
-  abbrev pub TriedToEnter : Result G TryFault → Type 0
-  TriedToEnter r = Tried (λ v w f. RefusesShared g v lock w f) (λ v w. TakesShared g v lock w) v w names r
-
-  pub entered_once : (r : Result G TryFault) → TriedToEnter r → loads w ≡ loads v + 1
-  entered_once r t = once (λ v w f. RefusesShared g v lock w f) (λ v w. TakesShared g v lock w) v w names (λ f m. reader_counts g lock v w f m) (λ t. entering_counts g lock v w t) r t
-
-  pub entered_fault : (r : Result G TryFault) → TriedToEnter r → last_fault w.steps ≡ result_err r
-  entered_fault r t = fault (λ v w f. RefusesShared g v lock w f) (λ v w. TakesShared g v lock w) v w names (λ f m. reader_faults f m) (λ t. ap (λ (z : View P). last_fault z.steps) t.2.0.3) r t
 
   -- tries to take upgrade
   abbrev pub TriedToUpgrade : Result G TryFault → Type 0

@@ -2,12 +2,14 @@
 use Rattle.std.specs.Prelude.{◌≡◌, ℕ, Bool, false, true, List, [], ◌∷◌, ◌++◌}
 use Rattle.std.proofs.Common.{subst}
 use Rattle.hall.specs.declared.cargo.CargoRule.{Ghosts}
+use Rattle.hall.specs.declared.guards.Form.{Form}
 use Rattle.hall.specs.declared.guards.TryFault.{TryFault}
 use Rattle.hall.specs.declared.view.Standing.{Standing}
-use Rattle.hall.specs.declared.view.Standing.TheVariants.{Inline, Upgrade, Exclusive, Announcing}
+use Rattle.hall.specs.declared.view.Standing.TheVariants.{Upgrade, Exclusive, Announcing}
 use Rattle.hall.specs.declared.view.Shape.{Shape}
 use Rattle.hall.specs.declared.view.View.{View}
-use Rattle.shared_mutex.specs.Acquiring.{Finishes, RefusesAnnouncing, RefusesShared, TakesShared}
+use Rattle.hall.specs.Fitting.{stands_by}
+use Rattle.shared_mutex.specs.Acquiring.{EntersBy, Finishes, RefusesAnnouncing, RefusesShared}
 use Rattle.shared_mutex.specs.Tries.{AnnouncesAndSweeps, MeetsReaders, OnlyLooked}
 use Rattle.shared_mutex.specs.TryLaws.{all_looked, meeting_looked, reader_looked, refused_then, still_elsewhere, wins_then, writer_looked}
 use Rattle.upgrade_mode.specs.Holding.{EntersUpgrade, RefusesUpgrade}
@@ -36,8 +38,8 @@ module _ {C P : Type 0} (g : Ghosts C P) where
   pub outside_again : (v u w : View P) (lock : ℕ) (f h : TryFault) → StillOutside g v lock f u → StillOutside g u lock h w → StillOutside g v lock h w
   outside_again v u w lock f h a b = refused_again (λ v w fault. RefusesShared g v lock w fault) v u w f h a b
 
-  pub entered_then : (v u w : View P) (lock : ℕ) (f : TryFault) → StillOutside g v lock f u → HasEntered g u lock w → HasEntered g v lock w
-  entered_then v u w lock f a b = won_then (λ v w fault. RefusesShared g v lock w fault) lock (λ u w f. reader_looked g u lock w f) (λ u w. TakesShared g u lock w) Inline v u w f a b
+  pub entered_then : (v u w : View P) (lock : ℕ) (f : TryFault) (form : Form) → StillOutside g v lock f u → HasEntered g u lock form w → HasEntered g v lock form w
+  entered_then v u w lock f form a b = won_then (λ v w fault. RefusesShared g v lock w fault) lock (λ u w f. reader_looked g u lock w f) (λ u w. EntersBy g u lock form w) (stands_by form) v u w f a b
 
   -- upgrade
   pub below_again : (v u w : View P) (lock : ℕ) (f h : TryFault) → StillBelow g v lock f u → StillBelow g u lock h w → StillBelow g v lock h w

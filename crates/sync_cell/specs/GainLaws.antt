@@ -1,30 +1,47 @@
 -- Laws of the steps of tries: all were made for the lock with no mode held there, and where a try raced or won, none was one that refuses busy.
-use Rattle.std.specs.Prelude.{◌≡◌, ℕ, ◌&&◌, ◌||◌, not, Bool, true, false, List, [], ◌∷◌, ◌++◌, All, None}
+use Rattle.std.specs.Prelude.{◌≡◌, ℕ, ◌+◌, ◌==◌, ◌&&◌, ◌||◌, not, Bool, true, false, List, [], ◌∷◌, ◌++◌, slice_index, All, None}
 use Rattle.std.proofs.Common.{refl, sym, ap, ◌∙◌, subst, ⊎_elim, append_assoc}
 use Rattle.std.proofs.lemmas.List.{append_cancel_right}
 use Rattle.std.proofs.lemmas.List.Elements.{All-append, All-nil, All-cons}
 use Rattle.hall.specs.declared.cargo.CargoRule.{Ghosts}
+use Rattle.state_word.specs.Words.{may_defer_of}
+use Rattle.hall.specs.declared.guards.Form.{Form}
+use Rattle.hall.specs.declared.guards.Form.TheVariants as forms
+use Rattle.hall.specs.declared.guards.Why.TheVariants.{NoDefer, SlotsTaken}
 use Rattle.hall.specs.declared.guards.TryFault.{TryFault}
 use Rattle.hall.specs.declared.guards.TryFault.TheVariants.{Busy, Raced}
 use Rattle.hall.specs.declared.view.Kind.{Kind}
 use Rattle.hall.specs.declared.view.Kind.TheVariants as kinds
 use Rattle.hall.specs.declared.view.Shape.{Shape}
 use Rattle.hall.specs.declared.view.Standing.{Standing}
-use Rattle.hall.specs.declared.view.Standing.TheVariants.{Away, Announcing}
+use Rattle.hall.specs.declared.view.Standing.TheVariants.{Away, Undecided, Owing, Announcing}
 use Rattle.hall.specs.declared.view.StepEntry.{StepEntry}
 use Rattle.hall.specs.declared.view.View.{View}
 use Rattle.lock_model.specs.declared.model.Policy.{Policy}
-use Rattle.hall.specs.Plays.{conflicts_for_announcing, conflicts_for_shared}
-use Rattle.hall.specs.Views.{after_look, after_step, entry_of, mode_of, standing}
+use Rattle.hall.specs.Plays.{conflicts_for_announcing, conflicts_for_shared, lowered_part}
+use Rattle.hall.specs.Views.{after_look, after_step, after_step_at, entry_at, entry_of, mode_of, place_of, standing}
+use Rattle.reader_slots.specs.declared.Placed.TheVariants.{At, Taken}
+use Rattle.reader_slots.specs.declared.Withdrawn.{Withdrawn}
+use Rattle.reader_slots.specs.declared.Withdrawn.TheVariants.{Cleared, GaveBack}
+use Rattle.reader_slots.specs.Deferring.{Places, WithdrawsAs, first_slot, second_slot}
 use Rattle.apply_deferred.specs.Sweeping.{Sweeps}
 use Rattle.apply_deferred.specs.SweepLaws.{AllSweeping, is_sweeping, same_mode, sweep_goes}
-use Rattle.shared_mutex.specs.Acquiring.{AnnouncesWriter, FoundReaders, RefusesAnnouncing, RefusesExclusive, RefusesShared, TakesExclusive, TakesShared}
+use Rattle.shared_mutex.specs.Acquiring.{AnnouncesWriter, EntersBy, FoundReaders, RefusesAnnouncing, RefusesExclusive, RefusesShared, TakesExclusive}
 use Rattle.shared_mutex.specs.Refused.{AddsReads, MadeMore}
-use Rattle.shared_mutex.specs.Tries.{AddsSteps, IsTry}
-use Rattle.shared_mutex.specs.TryLaws.{adds_as, adds_none, adds_then}
+use Rattle.shared_mutex.specs.TokenLaws.{both_missed, loaded, placed, still_away}
+use Rattle.shared_mutex.specs.Tries.{AddsSteps, IsLook, IsTry, OnlyLooked}
+use Rattle.shared_mutex.specs.TryLaws.{adds_as, adds_none, adds_then, reader_looked}
 use Rattle.upgrade_mode.specs.Holding.{EntersUpgrade, RefusesUpgrade}
 use Rattle.sync_cell.specs.Attempts.{is_hold, is_load}
-use Rattle.sync_cell.specs.Gains.{AnyStep, GainedBy, GainedInOrder, IsQuiet, gains_mode, refuses_reader, refuses_writer}
+use Rattle.sync_cell.specs.Gains.{AnyStep, GainedBy, GainedInOrder, IsQuiet, gains_mode, looks_in, refuses_reader, refuses_writer}
+
+-- what is no look at a lock to be let in is no load of its word
+no_load : (k : Kind) (word : ℕ) → looks_in k word ≡ false → is_load k ≡ false
+no_load k word e = elim k as (λ z. looks_in z word ≡ false → is_load z ≡ false) [ kinds.Load ↦ λ h. absurd (cc) | _ ↦ λ h. refl ] e
+
+nobody_there : (a b : Bool) → b ≡ false → (a && b) ≡ false
+nobody_there true b e = e
+nobody_there false b e = refl
 
 -- a step of a sweep refuses nobody
 sweeping_refuses_none : (k : Kind) (a b : Bool) → is_sweeping k ≡ true → ((is_load k && a) || (is_hold k && b)) ≡ false
@@ -44,19 +61,26 @@ module _ {P : Type 0} (such : StepEntry → Type 0) where
   tries_none : (v : View P) (lock : ℕ) → standing v lock ≡ Away → OnlyTries v v lock
   tries_none v lock away = record { number = refl; free = ap mode_of away; steps = adds_none (IsTrySuch v lock) v v refl }
 
-  -- one step more
-  step_more : (v u w : View P) (kind : Kind) (lock word : ℕ) (won : Bool) (y : Standing) (part : P) → OnlyTries v u lock → such (entry_of u kind lock word won) → w ≡ after_step u kind lock word won y part → AddsSteps (IsTrySuch v lock) v w
-  step_more v u w kind lock word won y part t so is =
-      let e : StepEntry = entry_of u kind lock word won in
+  -- one step more, on the word at a place of the table
+  step_more_at : (v u w : View P) (kind : Kind) (lock place word : ℕ) (won : Bool) (y : Standing) (part : P) → OnlyTries v u lock → such (entry_at u kind lock place word won) → w ≡ after_step_at u kind lock place word won y part → AddsSteps (IsTrySuch v lock) v w
+  step_more_at v u w kind lock place word won y part t so is =
+      let e : StepEntry = entry_at u kind lock place word won in
       adds_then (IsTrySuch v lock) v u w t.steps (e ∷ [], ap (λ (z : View P). z.steps) is, All-cons (IsTrySuch v lock) e [] ((t.number, refl, t.free), so) (All-nil (IsTrySuch v lock)))
 
   -- and it leaves a standing without a mode
-  tries_more : (v u w : View P) (kind : Kind) (lock word : ℕ) (won : Bool) (y : Standing) (part : P) → OnlyTries v u lock → such (entry_of u kind lock word won) → mode_of y ≡ None → w ≡ after_step u kind lock word won y part → OnlyTries v w lock
-  tries_more v u w kind lock word won y part t so free is = record {
+  tries_more_at : (v u w : View P) (kind : Kind) (lock place word : ℕ) (won : Bool) (y : Standing) (part : P) → OnlyTries v u lock → such (entry_at u kind lock place word won) → mode_of y ≡ None → w ≡ after_step_at u kind lock place word won y part → OnlyTries v w lock
+  tries_more_at v u w kind lock place word won y part t so free is = record {
     number = ap (λ (z : View P). z.number) is ∙ t.number;
     free = ap (λ (z : View P). mode_of (standing z lock)) is ∙ same_mode u.standings lock y (free ∙ sym t.free) ∙ t.free;
-    steps = step_more v u w kind lock word won y part t so is;
+    steps = step_more_at v u w kind lock place word won y part t so is;
   }
+
+  -- the same on the lock's own word
+  step_more : (v u w : View P) (kind : Kind) (lock word : ℕ) (won : Bool) (y : Standing) (part : P) → OnlyTries v u lock → such (entry_of u kind lock word won) → w ≡ after_step u kind lock word won y part → AddsSteps (IsTrySuch v lock) v w
+  step_more v u w kind lock word won y part t so is = step_more_at v u w kind lock (place_of u lock) word won y part t so is
+
+  tries_more : (v u w : View P) (kind : Kind) (lock word : ℕ) (won : Bool) (y : Standing) (part : P) → OnlyTries v u lock → such (entry_of u kind lock word won) → mode_of y ≡ None → w ≡ after_step u kind lock word won y part → OnlyTries v w lock
+  tries_more v u w kind lock word won y part t so free is = tries_more_at v u w kind lock (place_of u lock) word won y part t so free is
 
   -- a look
   tries_look : (v u : View P) (kind : Kind) (lock word : ℕ) → OnlyTries v u lock → such (entry_of u kind lock word false) → OnlyTries v (after_look u kind lock word) lock
@@ -78,10 +102,10 @@ module _ {P : Type 0} where
   all_added : (is : StepEntry → Type 0) (v w : View P) (added : List StepEntry) → AddsSteps is v w → w.steps ≡ added ++ v.steps → All is added
   all_added is v w added a stand = subst (λ (l : List StepEntry). All is l) (append_cancel_right a.0 added v.steps (sym a.1 ∙ stand)) a.2
 
-  pub gained_last : (such : StepEntry → Type 0) (v z w : View P) (lock : ℕ) (gain : StepEntry) → AddsSteps (IsTrySuch such v lock) v w → MadeMore v z → w.steps ≡ gain ∷ z.steps → gain.won ≡ true → gains_mode gain.kind ≡ true → AddsReads (λ shape number added. GainedBy such lock number added) v w
-  gained_last such v z w lock gain adds more last won kind =
+  pub gained_last : (such : StepEntry → Type 0) (v z w : View P) (lock : ℕ) (gain : StepEntry) → AddsSteps (IsTrySuch such v lock) v w → MadeMore v z → w.steps ≡ gain ∷ z.steps → gains_mode gain.kind gain.won gain.word ≡ true → AddsReads (λ shape number added. GainedBy such lock number added) v w
+  gained_last such v z w lock gain adds more last gains =
       let stand : w.steps ≡ (gain ∷ more.0) ++ v.steps = last ∙ ap (λ (l : List StepEntry). gain ∷ l) more.1 in
-      (gain ∷ more.0, stand, record { later = []; gain = gain; earlier = more.0; stand = refl; tries = all_added (IsTrySuch such v lock) v w (gain ∷ more.0) adds stand; gains = (won, kind); after = All-nil such })
+      (gain ∷ more.0, stand, record { later = []; gain = gain; earlier = more.0; stand = refl; tries = all_added (IsTrySuch such v lock) v w (gain ∷ more.0) adds stand; gains = gains; after = All-nil such })
 
   -- one lock was gained, and then another
   pub gained_in_order : (v u w : View P) (low high : ℕ) → u.number ≡ v.number → AddsReads (λ shape number added. GainedBy AnyStep low number added) v u → AddsReads (λ shape number added. GainedBy AnyStep high number added) u w → AddsReads (λ shape number added. GainedInOrder low high number added) v w
@@ -121,23 +145,87 @@ module _ {P : Type 0} where
   quiet_for_reader v w policy a = adds_as IsQuiet (λ e. refuses_reader policy e ≡ false) v w (λ e q. ap (λ (b : Bool). b && conflicts_for_shared policy e.word) q.0) a
 
   pub quiet_for_writer : (v w : View P) → AddsSteps IsQuiet v w → AddsSteps (λ e. refuses_writer e ≡ false) v w
-  quiet_for_writer v w a = adds_as IsQuiet (λ e. refuses_writer e ≡ false) v w (λ e q. ap (λ (b : Bool). (b && conflicts_for_announcing e.word) || (is_hold e.kind && not e.won)) q.0 ∙ ap (λ (b : Bool). b && not e.won) q.1) a
+  quiet_for_writer v w a = adds_as IsQuiet (λ e. refuses_writer e ≡ false) v w
+      (λ e q. ap (λ (b : Bool). (b && conflicts_for_announcing e.word) || (is_hold e.kind && not e.won)) (no_load e.kind e.word q.0) ∙ ap (λ (b : Bool). b && not e.won) q.1) a
 
 -- ---- readers
-module _ {C P : Type 0} (g : Ghosts C P) (v w : View P) (lock : ℕ) (away : standing v lock ≡ Away) where
-  pub reader_took : TakesShared g v lock w → AddsSteps (IsTrySuch (λ e. refuses_reader v.shape.policy e ≡ false) v lock) v w
-  reader_took t =
-      let Free : StepEntry → Type 0 = λ e. refuses_reader v.shape.policy e ≡ false in
-      step_more Free v (after_look v kinds.Load lock t.0) w kinds.Enter lock t.0 true _ _ (tries_look Free v v kinds.Load lock t.0 (tries_none Free v lock away) t.1) refl t.2.0.3
+module _ {C P : Type 0} (g : Ghosts C P) (v : View P) (lock : ℕ) where
+  -- a step of a reader for which it isn't refused busy
+  abbrev Unrefused : StepEntry → Type 0
+  Unrefused e = refuses_reader v.shape.policy e ≡ false
 
-  pub reader_raced : (expected found : ℕ) → RefusesShared g v lock w (Raced expected found) → AddsSteps (IsTrySuch (λ e. refuses_reader v.shape.policy e ≡ false) v lock) v w
-  reader_raced expected found r =
-      let Free : StepEntry → Type 0 = λ e. refuses_reader v.shape.policy e ≡ false in let look : View P = after_look v kinds.Load lock expected in
-      step_more Free v look w kinds.Enter lock found false (standing look lock) look.part (tries_look Free v v kinds.Load lock expected (tries_none Free v lock away) r.3) refl r.1
+  -- it placed a token
+  placing : (l u : View P) (slot : ℕ) → OnlyTries Unrefused v l lock → Places g l lock (At slot) u → OnlyTries Unrefused v u lock
+  placing l u slot t p = ⊎_elim
+      (λ a. tries_more_at Unrefused v l u kinds.PlaceSlot lock slot 0 true (Undecided slot) l.part t refl refl a.1.0)
+      (λ b. let z : View P = b.1.0 in
+      let first : OnlyTries Unrefused v z lock = tries_more_at Unrefused v l z kinds.PlaceSlot lock (first_slot l.shape.slots l.number) b.1.1 false (standing l lock) l.part t refl t.free b.1.2.1.0 in
+      tries_more_at Unrefused v z u kinds.PlaceSlot lock slot 0 true (Undecided slot) z.part first refl refl b.1.3.0)
+      p
 
-  pub reader_tried : (f : TryFault) → RefusesShared g v lock w f → AddsSteps (IsTry v lock) v w
-  reader_tried (Busy word) r = plain_tries AnyStep v w lock (step_more AnyStep v v w kinds.Load lock word false (standing v lock) v.part (tries_none AnyStep v lock away) tt r.1)
-  reader_tried (Raced expected found) r = plain_tries (λ e. refuses_reader v.shape.policy e ≡ false) v w lock (reader_raced expected found r)
+  -- or found both slots taken
+  missing : (l u : View P) (tokens : List ℕ) → OnlyTries Unrefused v l lock → Places g l lock (Taken tokens) u → OnlyTries Unrefused v u lock
+  missing l u tokens t p =
+      let z : View P = p.0 in
+      let first : OnlyTries Unrefused v z lock = tries_more_at Unrefused v l z kinds.PlaceSlot lock (first_slot l.shape.slots l.number) (slice_index tokens 0) false (standing l lock) l.part t refl t.free p.1.1.0 in
+      tries_more_at Unrefused v z u kinds.PlaceSlot lock (second_slot l.shape.slots l.number) (slice_index tokens 1) false (standing z lock) z.part first refl first.free p.3.0
+
+  -- it took its token back
+  withdrawing : (c w : View P) (slot : ℕ) (ended : Withdrawn) → OnlyTries Unrefused v c lock → WithdrawsAs g c lock slot ended w → AddsSteps (IsTrySuch Unrefused v lock) v w
+  withdrawing c w slot Cleared t r = step_more_at Unrefused v c w kinds.WithdrawSlot lock slot (lock + 1) true Away c.part t refl r.0
+  withdrawing c w slot GaveBack t r =
+      let o : View P = r.0 in let owes : OnlyTries Unrefused v o lock = tries_more_at Unrefused v c o kinds.WithdrawSlot lock slot r.1 false Owing c.part t refl refl r.3.0 in
+      step_more Unrefused v o w kinds.Lower lock r.4.0 true Away (lowered_part g (standing o lock) lock o.part) owes refl r.4.1.0
+
+  module _ (away : standing v lock ≡ Away) where
+    loading : (seen : ℕ) → conflicts_for_shared v.shape.policy seen ≡ false → OnlyTries Unrefused v (after_look v kinds.Load lock seen) lock
+    loading seen free = tries_look Unrefused v v kinds.Load lock seen (tries_none Unrefused v lock away) free
+
+    pub reader_took : (form : Form) (w : View P) → EntersBy g v lock form w → AddsSteps (IsTrySuch (λ e. refuses_reader v.shape.policy e ≡ false) v lock) v w
+    reader_took (forms.Deferred slot) w e =
+        let u : View P = e.2.0 in
+        step_more Unrefused v u w kinds.Check lock e.2.2.0 false _ _ (placing (after_look v kinds.Load lock e.0) u slot (loading e.0 e.1.0) e.2.1)
+        (ap (λ (b : ℕ). not (b == 1) && conflicts_for_shared v.shape.policy e.2.2.0) e.2.2.1) e.2.2.2.0.3
+    reader_took (forms.Inline (NoDefer seen)) w e = step_more Unrefused v (after_look v kinds.Load lock seen) w kinds.Enter lock seen true _ _ (loading seen e.0) refl e.2.0.3
+    reader_took (forms.Inline (SlotsTaken tokens)) w e =
+        step_more Unrefused v e.2.0 w kinds.Enter lock e.0 true _ _ (missing (after_look v kinds.Load lock e.0) e.2.0 tokens (loading e.0 e.1.0) e.2.1) refl e.2.2.0.3
+    reader_took forms.Lowered w e = absurd e
+
+    -- and by its last step it gained the lock
+    last_step : (form : Form) (w : View P) → EntersBy g v lock form w → (z : View P) × (gain : StepEntry) × MadeMore v z × (w.steps ≡ gain ∷ z.steps) × (gains_mode gain.kind gain.won gain.word ≡ true)
+    last_step (forms.Deferred slot) w e =
+        let l : View P = after_look v kinds.Load lock e.0 in let u : View P = e.2.0 in
+        let t = placed g v lock away l u slot (still_away g v lock away e.0) (loaded g v lock away e.0 l refl) e.2.1 in
+        (u, entry_of u kinds.Check lock e.2.2.0 false, (t.added, t.steps), ap (λ (z : View P). z.steps) e.2.2.2.0.3, ap (λ (b : ℕ). b == 1) e.2.2.1)
+    last_step (forms.Inline (NoDefer seen)) w e =
+        let l : View P = after_look v kinds.Load lock seen in (l, entry_of l kinds.Enter lock seen true, (entry_of v kinds.Load lock seen false ∷ [], refl), ap (λ (z : View P). z.steps) e.2.0.3, refl)
+    last_step (forms.Inline (SlotsTaken tokens)) w e =
+        let l : View P = after_look v kinds.Load lock e.0 in let u : View P = e.2.0 in
+        let t = (both_missed g v lock away l u tokens (still_away g v lock away e.0) (loaded g v lock away e.0 l refl) e.2.1).0 in
+        (u, entry_of u kinds.Enter lock e.0 true, (t.added, t.steps), ap (λ (z : View P). z.steps) e.2.2.0.3, refl)
+    last_step forms.Lowered w e = absurd e
+
+    -- so it did after other tries
+    pub reader_gained : (such : StepEntry → Type 0) (o : View P) → MadeMore o v → (form : Form) (w : View P) → EntersBy g v lock form w → AddsSteps (IsTrySuch such o lock) o w → AddsReads (λ shape number added. GainedBy such lock number added) o w
+    reader_gained such o more form w e adds =
+        let last = last_step form w e in
+        gained_last such o last.0 w lock last.1 adds (last.2.0 ++ more.0, last.2.1 ∙ ap (λ (l : List StepEntry). last.2.0 ++ l) more.1 ∙ sym (append_assoc last.2.0 more.0 o.steps)) last.3 last.4
+
+    pub reader_raced : (expected found : ℕ) (w : View P) → RefusesShared g v lock w (Raced expected found) → AddsSteps (IsTrySuch (λ e. refuses_reader v.shape.policy e ≡ false) v lock) v w
+    reader_raced expected found w r =
+        let look : View P = after_look v kinds.Load lock expected in let t : OnlyTries Unrefused v look lock = loading expected r.1 in
+        ⊎_elim
+        (λ a. step_more Unrefused v look w kinds.Enter lock found false (standing look lock) look.part t refl a.1)
+        (λ bc. ⊎_elim
+        (λ b. let u : View P = b.1.1 in step_more Unrefused v u w kinds.Enter lock found false (standing u lock) u.part (missing look u b.1.0 t b.1.2) refl b.1.3)
+        (λ c. let back = c.1.3 in let u : View P = back.1 in let turned = back.3 in
+        withdrawing (after_look u kinds.Check lock found) w back.0 turned.2.0
+        (tries_look Unrefused v u kinds.Check lock found (placing look u back.0 t back.2) (nobody_there (not (may_defer_of found == 1)) (conflicts_for_shared v.shape.policy found) c.0)) turned.2.1)
+        bc)
+        r.2
+
+  pub reader_tried : (w : View P) (f : TryFault) → standing v lock ≡ Away → RefusesShared g v lock w f → AddsSteps (IsTry v lock) v w
+  reader_tried w f away r = let looked : OnlyLooked v lock w = reader_looked g v lock w f r in adds_as (IsLook v lock) (IsTry v lock) v w (λ e p. (p.0, p.1, p.2 ∙ ap mode_of away)) looked.steps
 
 -- ---- upgrade, of whom the same words are in the way as of a writer's announcement
 module _ {C P : Type 0} (g : Ghosts C P) (v w : View P) (lock : ℕ) (away : standing v lock ≡ Away) where

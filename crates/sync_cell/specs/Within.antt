@@ -2,22 +2,25 @@
 use Rattle.std.specs.Prelude.{◌≡◌, ◌≢◌, ℕ, List}
 use Rattle.std.specs.Borrow.{Bor, MutBor}
 use Rattle.std.specs.Fn.{Once}
+use Rattle.hall.specs.declared.guards.Form.{Form}
 use Rattle.hall.specs.declared.guards.TryFault.{TryFault}
 use Rattle.hall.specs.declared.hall.Hall.{Hall}
 use Rattle.hall.specs.declared.hall.Pass.{Pass}
 use Rattle.hall.specs.declared.view.Standing.{Standing}
-use Rattle.hall.specs.declared.view.Standing.TheVariants.{Inline, Upgrade, Exclusive}
+use Rattle.hall.specs.declared.view.Standing.TheVariants.{Upgrade, Exclusive}
 use Rattle.hall.specs.declared.view.View.{View}
-use Rattle.hall.specs.Passes.{view, IsPassOf}
+use Rattle.hall.specs.Fitting.{SharedFits}
+use Rattle.hall.specs.Passes.{view, IsPassOf, shape_of}
 use Rattle.hall.specs.Views.{mode_of, standing}
 use Rattle.map_cargo.specs.declared.entry.Part.{Part}
 use Rattle.map_cargo.specs.declared.size.MapCargo.{MapCargo}
 use Rattle.shared_mutex.specs.Acquiring.{ElsewhereSame}
+use Rattle.sync_cell.specs.Attempts.{ReadsAtLast}
 use Rattle.sync_cell.specs.Cells.{maps}
 use Rattle.sync_cell.specs.declared.pointers.ReadPtr.{ReadPtr}
 use Rattle.sync_cell.specs.declared.pointers.UpgradePtr.{UpgradePtr}
 use Rattle.sync_cell.specs.declared.pointers.WritePtr.{WritePtr}
-use Rattle.shared_mutex.specs.Tries.{EntersAtLast, WritesAtLast}
+use Rattle.shared_mutex.specs.Tries.{WritesAtLast}
 use Rattle.upgrade_mode.specs.Tries.{EntersUpgradeAtLast}
 
 module _ {P : Type 0} where
@@ -30,8 +33,8 @@ module _ {P : Type 0} where
   KeepsModesElsewhere v w lock = (k : ℕ) → k ≢ lock → mode_of (standing w k) ≡ mode_of (standing v k)
 
 -- the pointer to a cell that is held for reading, in upgrade mode, and for writing
-abbrev pub reads_at : ℕ → ReadPtr
-reads_at cell = record { guard = record { lock = cell } }
+abbrev pub reads_at : ℕ → Form → ReadPtr
+reads_at cell form = record { guard = record { lock = cell; form = form } }
 
 abbrev pub upgrades_at : ℕ → UpgradePtr
 upgrades_at cell = record { guard = record { lock = cell } }
@@ -39,9 +42,9 @@ upgrades_at cell = record { guard = record { lock = cell } }
 abbrev pub writes_at : ℕ → WritePtr
 writes_at cell = record { guard = record { lock = cell } }
 
--- a pass of the hall has just taken the cell for reading, with this view before
-abbrev pub TookToRead : Hall MapCargo Part → View Part → ℕ → Pass MapCargo Part maps → Type 0
-TookToRead h v cell held = IsPassOf h held × (standing (view held) cell ≡ Inline) × ElsewhereSame v (view held) cell × ((faults : List TryFault) × EntersAtLast maps v cell faults (view held))
+-- a pass of the hall has just taken the cell for reading, in this form, with this view before
+abbrev pub TookToRead : Hall MapCargo Part → View Part → ℕ → Form → Pass MapCargo Part maps → Type 0
+TookToRead h v cell form held = IsPassOf h held × SharedFits (shape_of h) (view held) (record { lock = cell; form = form }) × ElsewhereSame v (view held) cell × ((faults : List TryFault) × ReadsAtLast maps v cell form faults (view held))
 
 -- or in upgrade mode
 abbrev pub TookToUpgrade : Hall MapCargo Part → View Part → ℕ → Pass MapCargo Part maps → Type 0

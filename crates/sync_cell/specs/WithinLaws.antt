@@ -1,18 +1,22 @@
 -- What a pass knows of the maps after it took a cell.
-use Rattle.std.specs.Prelude.{ℕ, false, true, List}
+use Rattle.std.specs.Prelude.{◌≡◌, ℕ, false, true, List}
 use Rattle.std.proofs.Common.{ap, refl, ◌∙◌}
+use Rattle.hall.specs.declared.guards.Form.{Form}
 use Rattle.hall.specs.declared.guards.TryFault.{TryFault}
 use Rattle.hall.specs.declared.view.View.{View}
 use Rattle.hall.specs.declared.view.Kind.TheVariants as kinds
-use Rattle.hall.specs.declared.view.Standing.TheVariants.{Inline, Upgrade, Exclusive}
-use Rattle.hall.specs.Views.{after_look, entry_of}
+use Rattle.hall.specs.declared.view.Standing.TheVariants.{Away, Upgrade, Exclusive}
+use Rattle.hall.specs.Views.{after_look, entry_of, standing}
 use Rattle.map_cargo.specs.declared.entry.Part.{Part}
 use Rattle.map_cargo.specs.Gaining.{gained_by, gained_from}
+use Rattle.map_cargo.specs.Sharing.{gained_shared}
 use Rattle.map_cargo.specs.StepLaws.{more_one, more_then}
 use Rattle.map_cargo.specs.Steps.{Gained, MoreSteps}
 use Rattle.apply_deferred.specs.SweepLaws.{sweep_goes}
+use Rattle.sync_cell.specs.Attempts.{ReadsAtLast}
 use Rattle.sync_cell.specs.Cells.{maps}
-use Rattle.shared_mutex.specs.Tries.{AnnouncesAtLast, EntersAtLast, OnlyLooked, WritesAtLast}
+use Rattle.shared_mutex.specs.Tries.{AnnouncesAtLast, OnlyLooked, WritesAtLast}
+use Rattle.shared_mutex.specs.TryLaws.{stands_still}
 use Rattle.upgrade_mode.specs.Tries.{EntersUpgradeAtLast}
 
 -- looks only add steps
@@ -32,10 +36,10 @@ announced_more v cell faults a s =
     record { added = swept.added; stand = swept.steps }
 
 -- its words mean its map, and all else that the pass knew stays
-pub gained_to_read : (v : View Part) (cell : ℕ) (faults : List TryFault) (w : View Part) → EntersAtLast maps v cell faults w → Gained cell v w
-gained_to_read v cell faults w s =
-    let u : View Part = s.0 in let looked = s.2 in let look : View Part = after_look u kinds.Load cell s.3.0 in
-    gained_from cell look v w looked.part looked.number looked.quota looked.span looked.taken (more_then v u look (looked_more v u cell looked) (load_more u cell s.3.0)) (gained_by kinds.Enter Inline _ cell s.3.0 w s.3.2.0)
+pub gained_to_read : (v : View Part) (cell : ℕ) (form : Form) (faults : List TryFault) (w : View Part) → standing v cell ≡ Away → ReadsAtLast maps v cell form faults w → Gained cell v w
+gained_to_read v cell form faults w away s =
+    let u : View Part = s.0 in let looked = s.2 in
+    gained_from cell u v w looked.part looked.number looked.quota looked.span looked.taken (looked_more v u cell looked) (gained_shared maps cell u w (λ ws p q learns. learns) (stands_still v u cell looked ∙ away) form s.3)
 
 pub gained_to_upgrade : (v : View Part) (cell : ℕ) (faults : List TryFault) (w : View Part) → EntersUpgradeAtLast maps v cell faults w → Gained cell v w
 gained_to_upgrade v cell faults w s =

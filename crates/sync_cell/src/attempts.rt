@@ -4,11 +4,13 @@
 //! read off the pass's steps.
 ghost use Rattle.std.specs.Prelude.{◌≡◌, ◌<◌, true, false};
 ghost use Rattle.std.proofs.Common.{◌∙◌, subst};
+ghost use Rattle.hall.specs.Fitting.{SharedFits};
 ghost use Rattle.hall.specs.Passes.{view, IsPassOf, shape_of};
+ghost use Rattle.hall.specs.Slotting.{HasNonePending};
 ghost use Rattle.hall.specs.Views.{standing};
 ghost use Rattle.hall.specs.declared.view.Standing.TheVariants.{Away, Upgrade, Announcing};
 ghost use Rattle.sync_cell.specs.AttemptLaws as laws;
-ghost use Rattle.sync_cell.specs.Attempts.{HasAnnounced, HasBegun, HasEntered, HasFinished, HasUpgraded, StillAnnounced, StillBelow, StillOutside, StillUnannounced, StillWaiting, how_many, is_hold, is_load, last_fault};
+ghost use Rattle.sync_cell.specs.Attempts.{HasAnnounced, HasBegun, HasEntered, HasFinished, HasUpgraded, StillAnnounced, StillBelow, StillOutside, StillUnannounced, StillWaiting, how_many, is_hold, is_load, last_fault, reader_fault};
 ghost use Rattle.sync_cell.specs.Cells.{maps};
 
 use apply_deferred::scan;
@@ -18,7 +20,7 @@ use shared_mutex::{announce, try_finish, try_lock_shared};
 use timed_wait::Attempt;
 use upgrade_mode::{BeginRaced, begin_upgrade, try_lock_upgrade};
 
-/// Entering a cell as a reader, by a pass that is away from it.
+/// Entering a cell as a reader, by a pass that is away from it, with no token undecided and no unit owed elsewhere.
 #[derive(Drop)]
 pub(crate) struct ReadAttempt<'a> {
     pub(crate) hall: &'a Hall<MapCargo>,
@@ -33,11 +35,12 @@ impl<'a> Attempt for ReadAttempt<'a> {
 
     ghost ready = { λ a. IsPassOf a.hall.now a.pass.now
         × (a.cell < (shape_of a.hall.now).locks)
-        × (standing (view a.pass.now) a.cell ≡ Away) };
+        × (standing (view a.pass.now) a.cell ≡ Away)
+        × HasNonePending (view a.pass.now) };
 
     ghost tries = { λ a. how_many is_load (view a.pass.now).steps };
 
-    ghost fault = { λ a. last_fault (view a.pass.now).steps };
+    ghost fault = { λ a. reader_fault (view a.pass.now).shape.policy (view a.pass.now).steps };
 
     ghost refuses = { λ a fault b. (b.pass.ghost_name ≡ a.pass.ghost_name)
         × (b.hall ≡ a.hall)
@@ -49,7 +52,9 @@ impl<'a> Attempt for ReadAttempt<'a> {
         × (b.cell ≡ a.cell)
         × IsPassOf a.hall.now b.pass.now
         × (guard.lock ≡ a.cell)
-        × HasEntered maps (view a.pass.now) a.cell (view b.pass.now) };
+        × SharedFits (shape_of a.hall.now) (view b.pass.now) guard
+        × HasNonePending (view b.pass.now)
+        × HasEntered maps (view a.pass.now) a.cell guard.form (view b.pass.now) };
 
     ghost refuses_again = { λ a b c f g x y. (
       y.0 ∙ x.0,
@@ -64,7 +69,9 @@ impl<'a> Attempt for ReadAttempt<'a> {
       y.2 ∙ x.2,
       subst (λ h. IsPassOf h.now c.pass.now) x.1 y.3,
       y.4 ∙ x.2,
-      laws.entered_then maps _ _ _ _ _ x.3 (subst (λ k. HasEntered maps (view b.pass.now) k (view c.pass.now)) x.2 y.5),
+      subst (λ h. SharedFits (shape_of h.now) (view c.pass.now) got) x.1 y.5,
+      y.6,
+      laws.entered_then maps _ _ _ _ _ got.form x.3 (subst (λ k. HasEntered maps (view b.pass.now) k got.form (view c.pass.now)) x.2 y.7),
     ) };
 
     fn attempt(&mut self) -> Result<SharedGuard, TryFault> {

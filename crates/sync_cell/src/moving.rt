@@ -1,8 +1,11 @@
 //! From one mode of a cell to another, without giving the cell back in between.
 ghost use Rattle.std.specs.Prelude.{◌≡◌, ◌<◌, List};
+ghost use Rattle.hall.specs.Fitting.{SharedFits};
 ghost use Rattle.hall.specs.Passes.{view, IsPassOf, shape_of};
+ghost use Rattle.hall.specs.Slotting.{HasNonePending};
 ghost use Rattle.hall.specs.Upgrading.{LowersToShared, LowersToUpgrade, LowersUpgrade};
 ghost use Rattle.hall.specs.Views.{standing};
+ghost use Rattle.hall.specs.declared.guards.Form.TheVariants.{Lowered};
 ghost use Rattle.hall.specs.declared.guards.TryFault.{TryFault};
 ghost use Rattle.hall.specs.declared.view.Standing.TheVariants.{Inline, Upgrade, Exclusive};
 ghost use Rattle.shared_mutex.specs.Acquiring.{ElsewhereSame, MadeAtMost};
@@ -37,6 +40,7 @@ pub fn move_from_upgrade_to_write<R: Wait>(
     ensures pass { IsPassOf hall.now pass.new }
     ensures cell { result.guard.lock ≡ ptr.guard.lock }
     ensures stands { standing (view pass.new) ptr.guard.lock ≡ Exclusive }
+    ensures clear { HasNonePending (view pass.old) → HasNonePending (view pass.new) }
     ensures elsewhere { ElsewhereSame (view pass.old) (view pass.new) ptr.guard.lock }
     ensures step { (faults : List TryFault) × (misses : List TryFault) × RisesAtLast maps (view pass.old) ptr.guard.lock faults misses (view pass.new) }
     ensures steps { AddsSteps (IsPatientRise (view pass.old) ptr.guard.lock) (view pass.old) (view pass.new) }
@@ -70,9 +74,11 @@ pub fn move_from_write_to_read(
     requires exclusive { standing (view pass.old) ptr.guard.lock ≡ Exclusive }
     requires settled { IsSettled ptr.guard.lock (view pass.old).part }
     ensures pass { IsPassOf hall.now pass.new }
-    ensures cell { result.guard.lock ≡ ptr.guard.lock }
+    ensures cell { (result.guard.lock ≡ ptr.guard.lock) × (result.guard.form ≡ Lowered) }
     ensures step { LowersToShared maps (view pass.old) ptr.guard.lock 8 (view pass.new) }
     ensures stands { standing (view pass.new) ptr.guard.lock ≡ Inline }
+    ensures fits { SharedFits (shape_of hall.now) (view pass.new) result.guard }
+    ensures clear { HasNonePending (view pass.old) → HasNonePending (view pass.new) }
     ensures elsewhere { ElsewhereSame (view pass.old) (view pass.new) ptr.guard.lock }
     ensures steps { MadeAtMost (view pass.old) (view pass.new) 1 }
 {
@@ -97,6 +103,7 @@ pub fn move_from_write_to_upgrade(
     ensures cell { result.guard.lock ≡ ptr.guard.lock }
     ensures step { LowersToUpgrade maps (view pass.old) ptr.guard.lock 8 (view pass.new) }
     ensures stands { standing (view pass.new) ptr.guard.lock ≡ Upgrade }
+    ensures clear { HasNonePending (view pass.old) → HasNonePending (view pass.new) }
     ensures elsewhere { ElsewhereSame (view pass.old) (view pass.new) ptr.guard.lock }
     ensures steps { MadeAtMost (view pass.old) (view pass.new) 1 }
 {
@@ -116,9 +123,11 @@ pub fn move_from_upgrade_to_read(
     requires cell { ptr.guard.lock < (shape_of hall.now).locks }
     requires upgrade { standing (view pass.old) ptr.guard.lock ≡ Upgrade }
     ensures pass { IsPassOf hall.now pass.new }
-    ensures cell { result.guard.lock ≡ ptr.guard.lock }
+    ensures cell { (result.guard.lock ≡ ptr.guard.lock) × (result.guard.form ≡ Lowered) }
     ensures step { (found : _) × LowersUpgrade maps (view pass.old) ptr.guard.lock found (view pass.new) }
     ensures stands { standing (view pass.new) ptr.guard.lock ≡ Inline }
+    ensures fits { SharedFits (shape_of hall.now) (view pass.new) result.guard }
+    ensures clear { HasNonePending (view pass.old) → HasNonePending (view pass.new) }
     ensures elsewhere { ElsewhereSame (view pass.old) (view pass.new) ptr.guard.lock }
     ensures steps { MadeAtMost (view pass.old) (view pass.new) 1 }
 {

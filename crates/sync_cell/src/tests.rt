@@ -1,8 +1,9 @@
 //! What no clause says: that the words are those that are meant, and how often the clock is asked.
 ghost use Rattle.std.specs.Prelude.{◌≡◌, ◌≢◌, ◌<◌, ℕ};
 ghost use Rattle.hall.specs.Passes.{view, IsPassOf, shape_of};
+ghost use Rattle.hall.specs.Slotting.{HasNonePending};
 ghost use Rattle.hall.specs.Views.{standing};
-ghost use Rattle.hall.specs.declared.view.Standing.TheVariants.{Away, Inline, Exclusive};
+ghost use Rattle.hall.specs.declared.view.Standing.TheVariants.{Away, Exclusive};
 ghost use Rattle.map_cargo.specs.History.{IsSettled, IsRested};
 ghost use Rattle.map_cargo.specs.Steps.{Gained, IsIdle};
 ghost use Rattle.sync_cell.specs.Within.{KeepsModes};
@@ -12,7 +13,7 @@ use crate::{
     move_from_write_to_upgrade, rlock, rlock_until, try_rlock, try_ulock, try_wlock, ulock,
     ulock_until, unlock_read, unlock_write, with_rlock, with_ulock, with_wlock, wlock, wlock_until,
 };
-use hall::{Hall, Pass, Policy, TryFault, Word};
+use hall::{Form, Hall, Pass, Policy, TryFault, Why, Word};
 use map_cargo::MapCargo;
 use ql_base::{Clock, ListClock};
 use shared_mutex::{announce, retract};
@@ -82,7 +83,9 @@ fn no_reader<A: Abort + Wait>(
 )
     requires pass { IsPassOf hall.now pass.old × (0 < (shape_of hall.now).locks) }
     requires away { standing (view pass.old) 0 ≡ Away }
+    requires clear { HasNonePending (view pass.old) }
     ensures pass { IsPassOf hall.now pass.new × (standing (view pass.new) 0 ≡ Away) }
+    ensures clear { HasNonePending (view pass.new) }
 {
     match rlock_until(rt, hall, pass, 0, clock, expected.deadline) {
         Ok(_) => rt.abort(),
@@ -101,6 +104,7 @@ fn no_writer<A: Abort + Wait>(
     requires pass { IsPassOf hall.now pass.old × (0 < (shape_of hall.now).locks) }
     requires away { standing (view pass.old) 0 ≡ Away }
     ensures pass { IsPassOf hall.now pass.new × (standing (view pass.new) 0 ≡ Away) }
+    ensures clear { HasNonePending (view pass.old) → HasNonePending (view pass.new) }
 {
     match wlock_until(rt, hall, pass, 0, clock, expected.deadline) {
         Ok(_) => rt.abort(),
@@ -119,6 +123,7 @@ fn no_upgrade<A: Abort + Wait>(
     requires pass { IsPassOf hall.now pass.old × (0 < (shape_of hall.now).locks) }
     requires away { standing (view pass.old) 0 ≡ Away }
     ensures pass { IsPassOf hall.now pass.new × (standing (view pass.new) 0 ≡ Away) }
+    ensures clear { HasNonePending (view pass.old) → HasNonePending (view pass.new) }
 {
     match ulock_until(rt, hall, pass, 0, clock, expected.deadline) {
         Ok(_) => rt.abort(),
@@ -131,6 +136,7 @@ fn no_try<A: Abort>(rt: &A, hall: &Hall<MapCargo>, pass: &mut Pass<MapCargo>, ex
     requires pass { IsPassOf hall.now pass.old × (0 < (shape_of hall.now).locks) }
     requires away { standing (view pass.old) 0 ≡ Away }
     ensures pass { IsPassOf hall.now pass.new × (standing (view pass.new) 0 ≡ Away) }
+    ensures clear { HasNonePending (view pass.old) → HasNonePending (view pass.new) }
 {
     match try_wlock(hall, pass, 0) {
         Ok(_) => rt.abort(),
@@ -141,6 +147,7 @@ fn no_try<A: Abort>(rt: &A, hall: &Hall<MapCargo>, pass: &mut Pass<MapCargo>, ex
 // Beside a writer: late at the first answer that isn't below the deadline. The answer that comes next shows how many
 // tries there were. The clocks rise, fall and jump.
 #[test]
+#[tactic(auto, using(hall::specs::SlotLaws::none_pending_looked))]
 fn readers_are_late(rt: HostRuntime) -> Result<(), AllocError> {
     let cargo = MapCargo {
         cells: 1,
@@ -234,6 +241,8 @@ fn a_free_cell_is_taken(rt: HostRuntime) -> Result<(), AllocError> {
     match rlock_until(&rt, &hall, &mut other, 0, &mut clock, 0) {
         Ok(ptr) => {
             assert_eq!(rt; ptr.cell(), 0);
+            let why = Why::NoDefer { word: Word(0) };
+            assert_eq!(rt; ptr.guard.form, Form::Inline { why });
             assert_eq!(rt; hall.load(&mut other, 0), Word(ONE));
             unlock_read(&hall, &mut other, ptr);
         }
@@ -282,6 +291,39 @@ fn a_late_writer_is_away(rt: HostRuntime) -> Result<(), AllocError> {
     no_try(&rt, &hall, &mut writer, fault);
     unlock_read(&hall, &mut reader, held);
     Ok(())
+}
+
+// After an announcement was taken back readers defer: the cell is held for reading by a token in a slot, and its word isn't
+// written. A writer that comes moves the token into the count, finds the reader there, and leaves it there.
+#[test]
+fn a_reader_defers(rt: HostRuntime) {
+    let cargo = MapCargo {
+        cells: 1,
+        rows: 1,
+        writes: 1,
+    };
+    let made = Hall::make(rt.alloc(), 1, 32, Policy::WritePriority, 2, 0, cargo);
+    let Ok((hall, first)) = made else { rt.abort() };
+    let mut writer = first;
+    let mut reader = hall.split(&mut writer, 1, 0);
+    let Ok(announced) = announce(&hall, &mut writer, 0) else {
+        rt.abort()
+    };
+    retract(&hall, &mut writer, announced);
+    let held = rlock(&rt, &hall, &mut reader, 0);
+    assert_eq!(rt; held.guard.form, Form::Deferred { slot: 2 });
+    assert_eq!(rt; hall.load(&mut writer, 0), Word(1));
+    let fault = TryFault::Busy {
+        word: Word(ONE + 4),
+    };
+    no_try(&rt, &hall, &mut writer, fault);
+    assert_eq!(rt; hall.load(&mut writer, 0), Word(ONE + 1));
+    unlock_read(&hall, &mut reader, held);
+    assert_eq!(rt;
+        with_rlock(&rt, &hall, &mut reader, 0, look_as_reader),
+        Word(1)
+    );
+    assert_eq!(rt; hall.load(&mut writer, 0), Word(1));
 }
 
 // A seat stops after it announced a writer. Under write priority nobody gets in: each try is refused for the word 4, and
@@ -439,6 +481,7 @@ fn something_is_done_while_a_cell_is_held(rt: HostRuntime) {
 fn beside_upgrade<A: Abort>(rt: &A, hall: &Hall<MapCargo>, other: &mut Pass<MapCargo>)
     requires pass { IsPassOf hall.now other.old × (0 < (shape_of hall.now).locks) }
     requires away { standing (view other.old) 0 ≡ Away }
+    requires clear { HasNonePending (view other.old) }
     ensures pass { IsPassOf hall.now other.new × (standing (view other.new) 0 ≡ Away) }
 {
     match try_ulock(hall, other, 0) {
@@ -464,6 +507,7 @@ fn rise_and_fall<A: Abort + Wait>(
     requires pass { IsPassOf hall.now pass.old × (0 < (shape_of hall.now).locks) }
     requires idle { IsIdle (view pass.old) }
     requires other { IsPassOf hall.now other.old × (standing (view other.old) 0 ≡ Away) }
+    requires clear { HasNonePending (view other.old) }
     ensures pass { IsPassOf hall.now pass.new × (standing (view pass.new) 0 ≡ Away) }
     ensures other { IsPassOf hall.now other.new × (standing (view other.new) 0 ≡ Away) }
 {
@@ -474,6 +518,7 @@ fn rise_and_fall<A: Abort + Wait>(
     let upgraded = move_from_write_to_upgrade(hall, pass, written);
     assert_eq!(rt; hall.load(pass, 0), Word(2));
     let read = move_from_upgrade_to_read(hall, pass, upgraded);
+    assert_eq!(rt; read.guard.form, Form::Lowered);
     assert_eq!(rt; hall.load(pass, 0), Word(ONE));
     unlock_read(hall, pass, read);
 }

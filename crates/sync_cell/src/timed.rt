@@ -1,12 +1,15 @@
 //! Waiting for a cell until a deadline.
-ghost use Rattle.std.specs.Prelude.{◌≡◌, ◌<◌, ◌+◌, ◌∷◌, List, length, MatchResult};
+ghost use Rattle.std.specs.Prelude.{◌≡◌, ◌<◌, ◌+◌, ◌∷◌, List, length, IfOk, MatchResult};
+ghost use Rattle.hall.specs.Fitting.{SharedFits, stands_by};
 ghost use Rattle.hall.specs.Passes.{view, IsPassOf, shape_of};
+ghost use Rattle.hall.specs.Slotting.{HasNonePending};
 ghost use Rattle.hall.specs.Views.{standing};
 ghost use Rattle.hall.specs.declared.guards.TryFault.{TryFault};
-ghost use Rattle.hall.specs.declared.view.Standing.TheVariants.{Away, Inline, Upgrade, Exclusive};
+ghost use Rattle.hall.specs.declared.view.Standing.TheVariants.{Away, Upgrade, Exclusive};
 ghost use Rattle.shared_mutex.specs.Acquiring.{ElsewhereSame};
+ghost use Rattle.sync_cell.specs.Attempts.{ReadsAtLast};
 ghost use Rattle.sync_cell.specs.Cells.{maps};
-ghost use Rattle.shared_mutex.specs.Tries.{AddsSteps, EntersAtLast, IsPatientTry, IsTry, OnlyLooked, ReadersRefused, WritesAtLast};
+ghost use Rattle.shared_mutex.specs.Tries.{AddsSteps, IsPatientTry, IsTry, OnlyLooked, ReadersRefused, WritesAtLast};
 ghost use Rattle.upgrade_mode.specs.Tries.{EntersUpgradeAtLast, UpgradersRefused};
 ghost use Rattle.sync_cell.specs.Waits.{AskedInTime, AskedTooLate, GaveUpLate};
 
@@ -20,7 +23,8 @@ use std::sync::Wait;
 use timed_wait::{Late, wait_until};
 
 /// Waits until the cell can be read, and holds it for reading; or until a try was refused and the clock, asked next,
-/// answers the deadline or later. The pass has to be away from the cell, and is away where it is late.
+/// answers the deadline or later. The pass has to be away from the cell, with no token undecided and no unit owed elsewhere,
+/// and is away where it is late.
 ///
 /// One try is always made first, so a free cell is `Ok` whatever the deadline is, and the clock isn't asked. After each
 /// refused try the clock is asked once. Its contract holds if it returns.
@@ -35,12 +39,15 @@ pub fn rlock_until<R: Wait, T: Clock>(
     requires pass { IsPassOf hall.now pass.old }
     requires cell { cell < (shape_of hall.now).locks }
     requires away { standing (view pass.old) cell ≡ Away }
+    requires clear { HasNonePending (view pass.old) }
     ensures pass { IsPassOf hall.now pass.new }
     ensures cell { MatchResult result (λ ptr. ptr.guard.lock ≡ cell) (λ late. late.deadline ≡ deadline) }
-    ensures stands { MatchResult result (λ _. standing (view pass.new) cell ≡ Inline) (λ _. standing (view pass.new) cell ≡ Away) }
+    ensures stands { MatchResult result (λ ptr. standing (view pass.new) cell ≡ stands_by ptr.guard.form) (λ _. standing (view pass.new) cell ≡ Away) }
+    ensures fits { IfOk result (λ ptr. SharedFits (shape_of hall.now) (view pass.new) ptr.guard) }
+    ensures clear { HasNonePending (view pass.new) }
     ensures elsewhere { ElsewhereSame (view pass.old) (view pass.new) cell }
     ensures step { MatchResult result
-        (λ _. (faults : List TryFault) × EntersAtLast maps (view pass.old) cell faults (view pass.new)
+        (λ ptr. (faults : List TryFault) × ReadsAtLast maps (view pass.old) cell ptr.guard.form faults (view pass.new)
         × AskedInTime T.last T.answers deadline (length faults) clock.old clock.new)
         (λ late. (faults : List TryFault) × ReadersRefused maps cell (view pass.old) (late.fault ∷ faults) (view pass.new)
         × OnlyLooked (view pass.old) cell (view pass.new)
@@ -73,6 +80,7 @@ pub fn ulock_until<R: Wait, T: Clock>(
     ensures pass { IsPassOf hall.now pass.new }
     ensures cell { MatchResult result (λ ptr. ptr.guard.lock ≡ cell) (λ late. late.deadline ≡ deadline) }
     ensures stands { MatchResult result (λ _. standing (view pass.new) cell ≡ Upgrade) (λ _. standing (view pass.new) cell ≡ Away) }
+    ensures clear { HasNonePending (view pass.old) → HasNonePending (view pass.new) }
     ensures elsewhere { ElsewhereSame (view pass.old) (view pass.new) cell }
     ensures step { MatchResult result
         (λ _. (faults : List TryFault) × EntersUpgradeAtLast maps (view pass.old) cell faults (view pass.new)
@@ -113,6 +121,7 @@ pub fn wlock_until<R: Wait, T: Clock>(
     ensures pass { IsPassOf hall.now pass.new }
     ensures cell { MatchResult result (λ ptr. ptr.guard.lock ≡ cell) (λ late. late.deadline ≡ deadline) }
     ensures stands { MatchResult result (λ _. standing (view pass.new) cell ≡ Exclusive) (λ _. standing (view pass.new) cell ≡ Away) }
+    ensures clear { HasNonePending (view pass.old) → HasNonePending (view pass.new) }
     ensures elsewhere { ElsewhereSame (view pass.old) (view pass.new) cell }
     ensures step { MatchResult result
         (λ _. (faults : List TryFault) × (misses : List TryFault) × WritesAtLast maps (view pass.old) cell faults misses (view pass.new)

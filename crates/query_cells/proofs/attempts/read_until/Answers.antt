@@ -1,24 +1,19 @@
 use Rattle.std.proofs.Common.{◌+◌, length, refl}
 use Rattle.shared_mutex.specs.Tries.{IsPatientTry, IsTry}
 use Rattle.shared_mutex.specs.TryLaws.{adds_as}
-use Rattle.hall.specs.declared.view.Kind.TheVariants as kinds
 use Rattle.hall.specs.Passes.{view}
-use Rattle.hall.specs.Views.{after_look}
+use Rattle.sync_cell.specs.Cells.{maps}
 use Rattle.sync_cell.specs.Refused.{reader_late}
-use Rattle.map_cargo.specs.Gaining.{gained_by}
-use Rattle.query_cells.proofs.Taking.{gained_later, late_reads, turned_away, unchanged_look, unchanged_none, unchanged_once, unchanged_then}
+use Rattle.sync_cell.specs.WithinLaws.{gained_to_read}
+use Rattle.query_cells.proofs.Taking.{late_reads, turned_away, unchanged_look, unchanged_none}
 use Rattle.shared_mutex.specs.TrailLaws.{enters_treads, looked_weak}
 use Rattle.query_cells.proofs.attempts.read_until.Goals as goal
 
 pub returns-in-Ok-clause-taken : goal.returns-in-Ok-clause-taken
 returns-in-Ok-clause-taken g c =
-    let e = c.in-Ok.ensures in let s = e.step.1 in let v = view c.args.pass.now in let u = after_look s.0 kinds.Load c.args.cell s.3.0 in (
+    let e = c.in-Ok.ensures in (
       e.cell,
-      record {
-        stands = e.stands;
-        elsewhere = e.elsewhere;
-        gained = gained_later c.args.cell v u (view c.rlock_until.new.pass) (unchanged_then v s.0 u (unchanged_look v s.0 c.args.cell s.2) (unchanged_once s.0 kinds.Load c.args.cell s.3.0)) (gained_by _ _ _ _ _ _ s.3.2.0);
-      },
+      record { stands = e.stands; elsewhere = e.elsewhere; gained = gained_to_read (view c.args.pass.now) c.args.cell c.in-Ok.ptr.guard.form e.step.0 (view c.rlock_until.new.pass) c.requires.away e.step.1 },
     )
 
 pub returns-in-Err-clause-reads : goal.returns-in-Err-clause-reads
@@ -27,7 +22,8 @@ returns-in-Err-clause-reads g c =
     late_reads v w c.args.cell c.in-Err.late.fault (reader_late _ v c.args.cell w c.in-Err.late.fault s.0 c.requires.away s.1)
 
 pub returns-in-Ok-clause-trail : goal.returns-in-Ok-clause-trail
-returns-in-Ok-clause-trail g c = let s = c.in-Ok.ensures.step in enters_treads _ (view c.args.pass.now) (view c.rlock_until.new.pass) c.args.cell s.0 c.requires.away s.1
+returns-in-Ok-clause-trail g c = let s = c.in-Ok.ensures.step in let e = s.1 in
+    enters_treads maps (view c.args.pass.now) (view c.rlock_until.new.pass) c.args.cell s.0 c.requires.away (e.0, e.1, e.2, (c.in-Ok.ptr.guard.form, e.3))
 
 pub returns-in-Err-clause-trail : goal.returns-in-Err-clause-trail
 returns-in-Err-clause-trail g c = looked_weak (view c.args.pass.now) (view c.rlock_until.new.pass) c.args.cell c.requires.away c.in-Err.ensures.step.2

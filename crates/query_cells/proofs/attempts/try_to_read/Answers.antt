@@ -1,26 +1,24 @@
-use Rattle.std.proofs.Common.{◌≡◌, ◌∙◌, ap, false, refl, rules, true}
-use Rattle.hall.specs.declared.view.Kind.TheVariants as kinds
+use Rattle.std.proofs.Common.{◌≡◌, ◌∙◌, false, rules}
 use Rattle.hall.specs.Passes.{view}
-use Rattle.hall.specs.declared.view.View.{View}
-use Rattle.hall.specs.Views.{after_look, entry_of}
 use Rattle.shared_mutex.specs.Refused.{reader_refused}
-use Rattle.map_cargo.specs.Gaining.{gained_by}
-use Rattle.query_cells.proofs.Taking.{busy_reads, gained_later, reader_unchanged, turned_away, unchanged_once, unchanged_then}
+use Rattle.map_cargo.specs.Sharing.{gained_shared}
+use Rattle.query_cells.proofs.Taking.{busy_reads, gained_later, reader_unchanged, turned_away, unchanged_then}
 use Rattle.hall.specs.Treading.{IsWeakAt, treads_then}
 use Rattle.shared_mutex.specs.TrailLaws.{takes_shared_treads, refuses_shared_treads}
+use Rattle.sync_cell.specs.Cells.{maps}
 use Rattle.sync_cell.specs.Gains.{refuses_reader}
-use Rattle.sync_cell.specs.GainLaws.{gained_last, plain_tries, reader_took}
+use Rattle.sync_cell.specs.GainLaws.{plain_tries, reader_gained, reader_took}
 use Rattle.query_cells.proofs.Tries.{plain_then, raced_read, reads_more}
 use Rattle.query_cells.proofs.attempts.try_to_read.Goals as goal
 
 pub returns-in-Ok-clause-taken : goal.returns-in-Ok-clause-taken
 returns-in-Ok-clause-taken g c =
-    let e = c.in-Ok.ensures in let s = e.step in let v = view c.loop.pass in let u = after_look v kinds.Load c.args.cell s.1.0 in (
+    let e = c.in-Ok.ensures in let s = e.step in let v = view c.loop.pass in (
       s.0,
       record {
         stands = e.stands;
         elsewhere = λ k ne. e.elsewhere k ne ∙ c.loop.invariant.elsewhere k ne;
-        gained = gained_later c.args.cell (view c.args.pass.now) u (view c.try_rlock.new.pass) (unchanged_then (view c.args.pass.now) v u c.loop.invariant.quiet (unchanged_once v kinds.Load c.args.cell s.1.0)) (gained_by _ _ _ _ _ _ s.1.2.0);
+        gained = gained_later c.args.cell (view c.args.pass.now) v (view c.try_rlock.new.pass) c.loop.invariant.quiet (gained_shared maps c.args.cell v (view c.try_rlock.new.pass) (λ ws p q learns. learns) c.loop.invariant.away c.in-Ok.ptr.guard.form s.1);
       },
     )
 
@@ -42,6 +40,7 @@ loop-preserved g c =
       goes_on = search rules;
       pass = search rules;
       away = search rules;
+      clear = e.ensures.clear;
       quiet = unchanged_then (view c.args.pass.now) u (view c.try_rlock.new.pass) c.loop.invariant.quiet (reader_unchanged _ u c.args.cell (view c.try_rlock.new.pass) e.field-0 e.ensures.step);
       elsewhere = search rules;
       trail = treads_then (IsWeakAt c.args.cell) (view c.args.pass.now) u (view c.try_rlock.new.pass) c.loop.invariant.trail (refuses_shared_treads _ u (view c.try_rlock.new.pass) c.args.cell e.field-0 c.loop.invariant.away e.ensures.step);
@@ -51,7 +50,7 @@ loop-preserved g c =
 pub returns-in-Ok-clause-trail : goal.returns-in-Ok-clause-trail
 returns-in-Ok-clause-trail g c =
     let u = view c.loop.pass in let w = view c.try_rlock.new.pass in
-    treads_then (IsWeakAt c.args.cell) (view c.args.pass.now) u w c.loop.invariant.trail (takes_shared_treads _ u w c.args.cell c.loop.invariant.away c.in-Ok.ensures.step.1)
+    treads_then (IsWeakAt c.args.cell) (view c.args.pass.now) u w c.loop.invariant.trail (takes_shared_treads maps u w c.args.cell c.loop.invariant.away (c.in-Ok.ptr.guard.form, c.in-Ok.ensures.step.1))
 
 pub returns-in-Err-Busy-clause-trail : goal.returns-in-Err-Busy-clause-trail
 returns-in-Err-Busy-clause-trail g c =
@@ -60,7 +59,6 @@ returns-in-Err-Busy-clause-trail g c =
 
 pub returns-in-Ok-clause-tries : goal.returns-in-Ok-clause-tries
 returns-in-Ok-clause-tries g c =
-    let so_far = c.loop.invariant in let s = c.in-Ok.ensures.step in let v = view c.args.pass.now in let u = view c.loop.pass in let z = after_look u kinds.Load c.args.cell s.1.0 in let w = view c.try_rlock.new.pass in
-    gained_last (λ e. refuses_reader v.shape.policy e ≡ false) v z w c.args.cell (entry_of z kinds.Enter c.args.cell s.1.0 true)
-    (reads_more v u w c.args.cell so_far.quiet.goes_on.number so_far.quiet.goes_on.shape so_far.tries (reader_took _ u w c.args.cell so_far.away s.1))
-    (unchanged_then v u z so_far.quiet (unchanged_once u kinds.Load c.args.cell s.1.0)).goes_on.more (ap (λ (x : View _). x.steps) s.1.2.0.3) refl refl
+    let so_far = c.loop.invariant in let s = c.in-Ok.ensures.step in let form = c.in-Ok.ptr.guard.form in let v = view c.args.pass.now in let u = view c.loop.pass in let w = view c.try_rlock.new.pass in
+    reader_gained maps u c.args.cell so_far.away (λ e. refuses_reader v.shape.policy e ≡ false) v so_far.quiet.goes_on.more form w s.1
+    (reads_more v u w c.args.cell so_far.quiet.goes_on.number so_far.quiet.goes_on.shape so_far.tries (reader_took maps u c.args.cell so_far.away form w s.1))

@@ -1,6 +1,7 @@
 use Rattle.std.proofs.Common.{◌≡◌, false}
 use Rattle.hall.specs.declared.view.Standing.TheVariants.{Away}
 use Rattle.hall.specs.Passes.{view, IsPassOf}
+use Rattle.hall.specs.Slotting.{HasNonePending}
 use Rattle.hall.specs.Treading.{IsWeakAt, Treads}
 use Rattle.hall.specs.Views.{standing}
 use Rattle.shared_mutex.specs.Acquiring.{ElsewhereSame}
@@ -17,6 +18,7 @@ invariant-loop g l = record {
   goes_on : (goal.iterator-loop g).is_finite l.iterator';
   pass : IsPassOf l.hall l.pass;
   away : standing (view l.pass) l.cell ≡ Away;
+  clear : HasNonePending (view l.pass);
   quiet : Unchanged (view l.fn.pass) (view l.pass);
   elsewhere : ElsewhereSame (view l.fn.pass) (view l.pass) l.cell;
   trail : Treads (IsWeakAt l.cell) (view l.fn.pass) (view l.pass);

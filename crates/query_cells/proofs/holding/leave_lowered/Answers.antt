@@ -15,7 +15,7 @@ pub returns-clause-back : goal.returns-clause-back
 returns-clause-back c =
     let lock = c.args.ptr.guard.lock in let v = view c.args.pass.now in let u = view c.move_from_write_to_read-ptr.new.pass in let lowered = c.move_from_write_to_read-ptr.ensures in
     leads_then (cargo_of c.args.hall.now) v u (view c.leave_reading.new.pass)
-    (leads_once (cargo_of c.args.hall.now) v u ExclusiveShared lock 8 true (subst (λ (s : Shape). lock < s.locks) (sym c.requires.pass.1) c.requires.cell)
+    (leads_once (cargo_of c.args.hall.now) v u ExclusiveShared lock 8 true refl (subst (λ (s : Shape). lock < s.locks) (sym c.requires.pass.1) c.requires.cell)
     (ap (λ (z : View Part). z.shape) lowered.step.1) lowered.elsewhere (ap (λ (z : View Part). z.steps) lowered.step.1)) c.leave_reading.ensures.back
 
 pub returns-clause-left : goal.returns-clause-left
@@ -32,10 +32,10 @@ pub returns-clause-trail : goal.returns-clause-trail
 returns-clause-trail c =
     let lock = c.args.ptr.guard.lock in let v = view c.args.pass.now in let u = view c.move_from_write_to_read-ptr.new.pass in let w = view c.leave_reading.new.pass in let read = c.move_from_write_to_read-ptr.ensures.cell in
     treads_then (IsAt lock) v u w (lowers_treads _ v u lock c.move_from_write_to_read-ptr.ensures.step)
-    (treads_as (IsWeakAt lock) (IsAt lock) u w (λ m p. p.0) (subst (λ l. Treads (IsWeakAt l) u w) read c.leave_reading.ensures.trail))
+    (treads_as (IsWeakAt lock) (IsAt lock) u w (λ m p. p.0) (subst (λ l. Treads (IsWeakAt l) u w) read.0 c.leave_reading.ensures.trail))
 
 pub returns-clause-elsewhere : goal.returns-clause-elsewhere
-returns-clause-elsewhere c = let read = c.move_from_write_to_read-ptr.ensures in λ k ne. c.leave_reading.ensures.elsewhere k (λ at. ne (at ∙ read.cell)) ∙ read.elsewhere k ne
+returns-clause-elsewhere c = let read = c.move_from_write_to_read-ptr.ensures in λ k ne. c.leave_reading.ensures.elsewhere k (λ at. ne (at ∙ read.cell.0)) ∙ read.elsewhere k ne
 
 pub returns-clause-quiet : goal.returns-clause-quiet
 returns-clause-quiet c =

@@ -13,7 +13,7 @@ use Rattle.query_cells.proofs.holding.leave_writing.Goals as goal
 pub returns-clause-back : goal.returns-clause-back
 returns-clause-back c =
     let lock = c.args.ptr.guard.lock in let step = c.unlock_write.ensures.step in let is = step.1 in
-    leads_once (cargo_of c.args.hall.now) (view c.args.pass.now) (view c.unlock_write.new.pass) Release lock 8 true (subst (λ (s : Shape). lock < s.locks) (sym c.requires.pass.1) c.requires.cell)
+    leads_once (cargo_of c.args.hall.now) (view c.args.pass.now) (view c.unlock_write.new.pass) Release lock 8 true refl (subst (λ (s : Shape). lock < s.locks) (sym c.requires.pass.1) c.requires.cell)
     (ap (λ (z : View Part). z.shape) is) c.unlock_write.ensures.elsewhere (ap (λ (z : View Part). z.steps) is)
 
 pub returns-clause-trail : goal.returns-clause-trail

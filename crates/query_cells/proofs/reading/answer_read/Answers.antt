@@ -1,9 +1,10 @@
-use Rattle.std.proofs.Common.{◌∙◌, ap, sym}
+use Rattle.std.proofs.Common.{◌≡◌, ◌∙◌, ap, sym}
 use Rattle.hall.specs.Cargo.{shared_mode}
 use Rattle.hall.specs.Passes.{view, cargo_of}
 use Rattle.hall.specs.Treading.{IsWeakAt, treads_then}
 use Rattle.hall.specs.Views.{standing, mode_of}
 use Rattle.map_cargo.specs.declared.entry.Part.{Part}
+use Rattle.map_cargo.specs.Sharing.{shared_by}
 use Rattle.query_cells.specs.Answers.{cell_of}
 use Rattle.query_cells.proofs.Cells.{nothing_read}
 use Rattle.query_cells.proofs.Quiet.{quiet_then}
@@ -15,27 +16,27 @@ use Rattle.query_cells.proofs.reading.answer_read.Goals as goal
 pub look-said-requires-clause-held : goal.look-said-requires-clause-held
 look-said-requires-clause-held c =
     let v = view c.args.pass.now in let q = c.args.query.now in
-    is_some (mode_of (standing v (cell_of q))) (mode_here v c.args.ptr.guard.lock (cell_of q) shared_mode c.requires.at (ap mode_of c.requires.held))
+    is_some (mode_of (standing v (cell_of q))) (mode_here v c.args.ptr.guard.lock (cell_of q) shared_mode c.requires.at (ap mode_of c.requires.fits.1 ∙ shared_by c.args.ptr.guard.form))
 
 pub tell_read-reply-requires-clause-may : goal.tell_read-reply-requires-clause-may
 tell_read-reply-requires-clause-may c =
     let v = view c.args.pass.now in let u = view c.look-said.new.pass in let q = c.args.query.now in let e = c.look-said.ensures in
     may_read (cargo_of c.args.hall.now) v u c.args.index q c.look-said.result (read_of_one q c.requires.asks) c.requires.cell.0 e.pass.1 e.part
-    (is_some (mode_of (standing v (cell_of q))) (mode_here v c.args.ptr.guard.lock (cell_of q) shared_mode c.requires.at (ap mode_of c.requires.held))) e.says e.reads
+    (is_some (mode_of (standing v (cell_of q))) (mode_here v c.args.ptr.guard.lock (cell_of q) shared_mode c.requires.at (ap mode_of c.requires.fits.1 ∙ shared_by c.args.ptr.guard.form))) e.says e.reads
 
 pub tell_read-reply-requires-clause-holds : goal.tell_read-reply-requires-clause-holds
 tell_read-reply-requires-clause-holds c =
     let v = view c.args.pass.now in let u = view c.look-said.new.pass in let q = c.args.query.now in let lock = c.args.ptr.guard.lock in
     holds_in u q c.look-said.result (read_of_one q c.requires.asks)
-    (mode_here u lock (cell_of q) shared_mode c.requires.at (ap mode_of (stands_then v u lock _ c.look-said.ensures.pass.1.standings c.requires.held)) ∙ sym (read_mode q c.look-said.result c.requires.asks))
+    (mode_here u lock (cell_of q) shared_mode c.requires.at (ap mode_of (stands_then v u lock _ c.look-said.ensures.pass.1.standings c.requires.fits.1) ∙ shared_by c.args.ptr.guard.form) ∙ sym (read_mode q c.look-said.result c.requires.asks))
 
 pub tell_read-reply-requires-clause-rested : goal.tell_read-reply-requires-clause-rested
 tell_read-reply-requires-clause-rested c = ap (λ (p : Part). p.stored) c.look-said.ensures.part ∙ c.requires.rested
 
-pub leave_reading-requires-clause-held : goal.leave_reading-requires-clause-held
-leave_reading-requires-clause-held c =
-    let v = view c.args.pass.now in let u = view c.look-said.new.pass in let x = view c.tell_read-reply.new.pass in let lock = c.args.ptr.guard.lock in
-    stands_then u x lock _ c.tell_read-reply.ensures.pass.1.standings (stands_then v u lock _ c.look-said.ensures.pass.1.standings c.requires.held)
+pub leave_reading-requires-clause-fits : goal.leave_reading-requires-clause-fits
+leave_reading-requires-clause-fits c =
+    let v = view c.args.pass.now in let u = view c.look-said.new.pass in let x = view c.tell_read-reply.new.pass in let lock = c.args.ptr.guard.lock in let fits = c.requires.fits in
+    (fits.0, stands_then u x lock _ c.tell_read-reply.ensures.pass.1.standings (stands_then v u lock _ c.look-said.ensures.pass.1.standings fits.1), fits.2)
 
 pub returns-clause-idle : goal.returns-clause-idle
 returns-clause-idle c =

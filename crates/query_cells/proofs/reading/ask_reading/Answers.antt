@@ -1,8 +1,9 @@
-use Rattle.std.proofs.Common.{◌∙◌, ap, subst, sym}
+use Rattle.std.proofs.Common.{◌≡◌, ◌∙◌, ap, refl, subst, sym}
 use Rattle.hall.specs.declared.view.Shape.{Shape}
 use Rattle.hall.specs.Passes.{view, cargo_of}
 use Rattle.hall.specs.Treading.{IsWeakAt, treads_none, treads_then}
 use Rattle.query_rules.specs.declared.query.Reply.{Reply}
+use Rattle.map_cargo.specs.Gaining.{away_clear}
 use Rattle.query_cells.specs.Answers.{cell_of}
 use Rattle.query_cells.specs.Asked.{AsksClock, IsLateBy}
 use Rattle.query_cells.proofs.Refusing.{is_forced, may_refuse}
@@ -11,6 +12,9 @@ use Rattle.query_cells.proofs.Single.{read_of_one, refused_untried, tries_then_q
 use Rattle.query_cells.proofs.Trails.{reads_tread}
 use Rattle.query_cells.proofs.Tries.{one_in_order, refused_tried}
 use Rattle.query_cells.proofs.reading.ask_reading.Goals as goal
+
+pub hold_to_read-requires-clause-clear : goal.hold_to_read-requires-clause-clear
+hold_to_read-requires-clause-clear g c = away_clear (view c.args.pass.now) c.requires.idle.0
 
 pub returns-in-Ok-clause-tells : goal.returns-in-Ok-clause-tells
 returns-in-Ok-clause-tells g c =

@@ -1,5 +1,4 @@
-use Rattle.std.proofs.Common.{◌≡◌, ℕ, ◌∷◌, ◌++◌, ◌∙◌, ap, subst, sym, true}
-use Rattle.hall.specs.declared.view.Shape.{Shape}
+use Rattle.std.proofs.Common.{◌≡◌, ℕ, ◌∷◌, ◌++◌, subst, true}
 use Rattle.hall.specs.declared.view.Kind.TheVariants.{AddCargo}
 use Rattle.hall.specs.Passes.{view, cargo_of}
 use Rattle.map_cargo.specs.Cells.{number_place}
@@ -14,7 +13,6 @@ returns-clause-tells c =
     let v = view c.args.pass.now in let w = view c.draw.new.pass in let n = c.in-Ok.number in let e = c.in-Ok.ensures in let m = cargo_of c.args.hall.now in
     write_told m v w c.args.index c.args.query.now c.args.said n c.requires.may e.pass.1
     (subst (λ (k : ℕ). Drew 8 v.part w.part n (entry_for k c.args.index c.args.query.now c.args.said)) c.number.ensures.value e.drawn.0) e.drawn.1 c.requires.mode
-    (c.requires.pass.2 ∙ ap (λ (s : Shape). s.locks) (sym c.requires.pass.1))
     (subst (λ (k : ℕ). w.steps ≡ row_stores v m n (entry_for k c.args.index c.args.query.now c.args.said) 8 ++ (cargo_step v AddCargo (number_place m) n true ∷ v.steps)) c.number.ensures.value e.steps)
 
 pub returns-clause-quiet : goal.returns-clause-quiet

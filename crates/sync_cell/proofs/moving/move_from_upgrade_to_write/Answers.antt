@@ -1,11 +1,13 @@
 use Rattle.std.proofs.Common.{◌≡◌, true, ◌∙◌, sym, ap, subst}
 use Rattle.hall.specs.Passes.{view}
-use Rattle.hall.specs.Views.{standing}
+use Rattle.hall.specs.Views.{pending, standing}
 use Rattle.hall.specs.declared.view.Standing.TheVariants.{Announcing}
 use Rattle.shared_mutex.specs.Acquiring.{ElsewhereSame}
 use Rattle.upgrade_mode.specs.Tries.{BeginsAtLast, HoldsUpAtLast}
 use Rattle.sync_cell.specs.Cells.{maps}
 use Rattle.sync_cell.proofs.Acquired.{patient_rise, same_part}
+use Rattle.hall.specs.SlotLaws.{none_pending_at}
+use Rattle.hall.specs.Slotting.{HasNonePending}
 use Rattle.sync_cell.proofs.moving.move_from_upgrade_to_write.Goals as goal
 
 pub returns-clause-elsewhere : goal.returns-clause-elsewhere
@@ -38,3 +40,9 @@ returns-clause-part g c = let first = c.wait.ensures.gives in let last = c.wait-
     same_part maps v cell c.requires.upgrade began.0 ended.0 a (view c.pass-2-1.given.0)
     (subst (λ p. BeginsAtLast maps v cell began.0 (view p)) (sym between) began.1)
     (subst (λ p. HoldsUpAtLast maps a cell ended.0 (view p)) (sym after) ended.1)
+
+pub returns-clause-clear : goal.returns-clause-clear
+returns-clause-clear g c = let first = c.wait.ensures.gives in let last = c.wait-guard.ensures.gives in
+    let between = c.pass-1.given.1 (sym first.0) in let after = c.pass-2-1.given.1 (sym last.0) in let cell = c.args.ptr.guard.lock in
+    subst (λ p. HasNonePending (view c.args.pass.now) → HasNonePending (view p)) (sym after)
+    (none_pending_at (view c.args.pass.now) (view c.wait-guard.new.attempt.pass.now) cell (λ k ne. last.6.1 k ne ∙ ap (λ p. standing (view p) k) between ∙ first.4.1 k ne) (ap pending last.6.0))

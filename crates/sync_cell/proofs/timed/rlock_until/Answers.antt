@@ -4,21 +4,22 @@ use Rattle.hall.specs.Passes.{view}
 use Rattle.hall.specs.Views.{mode_of}
 use Rattle.shared_mutex.specs.TryLaws.{readers_looked, still_elsewhere}
 use Rattle.sync_cell.specs.Cells.{maps}
-use Rattle.shared_mutex.specs.Tries.{EntersAtLast, OnlyLooked, ReadersRefused}
+use Rattle.shared_mutex.specs.Tries.{OnlyLooked, ReadersRefused}
+use Rattle.sync_cell.specs.Attempts.{ReadsAtLast}
 use Rattle.sync_cell.specs.Waits.{AskedInTime, AskedTooLate}
 use Rattle.sync_cell.proofs.Acquired.{patient_looks, patient_reader}
 use Rattle.sync_cell.proofs.Counted.{entered_counted, in_time, loads, readers_counted, too_late}
 use Rattle.sync_cell.proofs.timed.rlock_until.Goals as goal
 
 pub returns-in-Ok-clause-step : goal.returns-in-Ok-clause-step
-returns-in-Ok-clause-step g c = let e = c.in-Ok.ensures in let v = view c.args.pass.now in let w = view c.wait_until.new.attempt.pass.now in let entered = e.gives.5.2 in
-    let step : (faults : List TryFault) × EntersAtLast maps v c.args.cell faults w × AskedInTime g.T.Clock.last g.T.Clock.answers c.args.deadline (length faults) c.args.clock.now c.wait_until.new.clock =
-    (entered.0, entered.1, in_time g.T.Clock.last g.T.Clock.answers c.args.deadline (length entered.0) (loads v) (loads w) c.args.clock.now c.wait_until.new.clock e.in_time e.at_once e.early (entered_counted maps c.args.cell v w entered.0 entered.1)) in
+returns-in-Ok-clause-step g c = let e = c.in-Ok.ensures in let v = view c.args.pass.now in let w = view c.wait_until.new.attempt.pass.now in let entered = e.gives.7.2 in
+    let step : (faults : List TryFault) × ReadsAtLast maps v c.args.cell c.in-Ok.guard.form faults w × AskedInTime g.T.Clock.last g.T.Clock.answers c.args.deadline (length faults) c.args.clock.now c.wait_until.new.clock =
+    (entered.0, entered.1, in_time g.T.Clock.last g.T.Clock.answers c.args.deadline (length entered.0) (loads v) (loads w) c.args.clock.now c.wait_until.new.clock e.in_time e.at_once e.early (entered_counted maps c.args.cell v w c.in-Ok.guard.form entered.0 entered.1)) in
     search rules
 
 pub returns-in-Ok-clause-steps : goal.returns-in-Ok-clause-steps
-returns-in-Ok-clause-steps g c = let entered = c.in-Ok.ensures.gives.5.2 in
-    let steps = patient_reader maps (view c.args.pass.now) c.args.cell c.requires.away entered.0 (view c.wait_until.new.attempt.pass.now) entered.1 in search rules
+returns-in-Ok-clause-steps g c = let entered = c.in-Ok.ensures.gives.7.2 in
+    let steps = patient_reader maps (view c.args.pass.now) c.args.cell c.requires.away entered.0 c.in-Ok.guard.form (view c.wait_until.new.attempt.pass.now) entered.1 in search rules
 
 pub returns-in-Err-clause-elsewhere : goal.returns-in-Err-clause-elsewhere
 returns-in-Err-clause-elsewhere g c = let r = c.in-Err.ensures.refuses.3 in let v = view c.args.pass.now in let w = view c.wait_until.new.attempt.pass.now in

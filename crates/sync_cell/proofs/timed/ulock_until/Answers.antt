@@ -1,7 +1,7 @@
 use Rattle.std.proofs.Common.{◌≡◌, ◌+◌, ◌∷◌, List, length, refl, ap, arith, rules}
 use Rattle.hall.specs.declared.guards.TryFault.{TryFault}
 use Rattle.hall.specs.Passes.{view}
-use Rattle.hall.specs.Views.{mode_of}
+use Rattle.hall.specs.Views.{mode_of, pending}
 use Rattle.shared_mutex.specs.TryLaws.{still_elsewhere}
 use Rattle.sync_cell.specs.Cells.{maps}
 use Rattle.shared_mutex.specs.Tries.{OnlyLooked}
@@ -9,6 +9,7 @@ use Rattle.upgrade_mode.specs.Tries.{EntersUpgradeAtLast, UpgradersRefused, upgr
 use Rattle.sync_cell.specs.Waits.{AskedInTime, AskedTooLate}
 use Rattle.sync_cell.proofs.Acquired.{patient_looks, patient_upgrader}
 use Rattle.sync_cell.proofs.Counted.{in_time, loads, too_late, upgraded_counted, upgraders_counted}
+use Rattle.hall.specs.SlotLaws.{none_pending_at, none_pending_same}
 use Rattle.sync_cell.proofs.timed.ulock_until.Goals as goal
 
 pub returns-in-Ok-clause-step : goal.returns-in-Ok-clause-step
@@ -36,3 +37,11 @@ returns-in-Err-clause-step g c = let e = c.in-Err.ensures in let r = e.refuses.3
 pub returns-in-Err-clause-steps : goal.returns-in-Err-clause-steps
 returns-in-Err-clause-steps g c = let r = c.in-Err.ensures.refuses.3 in let v = view c.args.pass.now in let w = view c.wait_until.new.attempt.pass.now in
     let steps = patient_looks v w c.args.cell (ap mode_of c.requires.away) (upgraders_looked maps v c.args.cell w (c.in-Err.late.fault ∷ r.0) r.1) in search rules
+
+pub returns-in-Ok-clause-clear : goal.returns-in-Ok-clause-clear
+returns-in-Ok-clause-clear g c = let taken = c.in-Ok.ensures.gives.5 in
+    let clear = none_pending_at (view c.args.pass.now) (view c.wait_until.new.attempt.pass.now) c.args.cell taken.1 (ap pending taken.0) in search rules
+
+pub returns-in-Err-clause-clear : goal.returns-in-Err-clause-clear
+returns-in-Err-clause-clear g c = let r = c.in-Err.ensures.refuses.3 in let v = view c.args.pass.now in let w = view c.wait_until.new.attempt.pass.now in
+    let clear = none_pending_same v w (upgraders_looked maps v c.args.cell w (c.in-Err.late.fault ∷ r.0) r.1).standings in search rules

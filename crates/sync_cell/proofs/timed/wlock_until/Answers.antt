@@ -2,7 +2,7 @@ use Rattle.std.proofs.Common.{◌≡◌, ◌∙◌, ◌+◌, ◌∷◌, List, le
 use Rattle.hall.specs.declared.guards.TryFault.{TryFault}
 use Rattle.hall.specs.declared.view.Standing.TheVariants.{Announcing, Away}
 use Rattle.hall.specs.Passes.{view, IsPassOf}
-use Rattle.hall.specs.Views.{mode_of, standing}
+use Rattle.hall.specs.Views.{mode_of, pending, standing}
 use Rattle.shared_mutex.specs.Acquiring.{ElsewhereSame}
 use Rattle.shared_mutex.specs.TryLaws.{meetings_looked, still_elsewhere, writers_looked}
 use Rattle.sync_cell.specs.Cells.{maps}
@@ -11,6 +11,8 @@ use Rattle.sync_cell.specs.Waits.{GaveUpLate}
 use Rattle.sync_cell.proofs.Acquired.{patient_looks, patient_writer, trying_writer}
 use Rattle.sync_cell.proofs.Counted.{announced_counted, finished_counted, holds, in_time, loads, meetings_counted, too_late, writers_counted}
 use Rattle.sync_cell.proofs.InTime.{in_time_then, too_late_then}
+use Rattle.hall.specs.SlotLaws.{none_pending_at, none_pending_same}
+use Rattle.hall.specs.Slotting.{HasNonePending}
 use Rattle.sync_cell.proofs.timed.wlock_until.Goals as goal
 
 pub returns-in_err-wait_until-clause-elsewhere : goal.returns-in_err-wait_until-clause-elsewhere
@@ -91,3 +93,21 @@ returns-in-Err-clause-steps g c = let one = c.in_ok-wait_until.ensures.gives in 
 pub retract-requires-clause-pass : goal.retract-requires-clause-pass
 retract-requires-clause-pass g c = let r = c.in-Err.ensures.refuses in let after = c.pass-2-1.given.1 (sym r.0) in let ready = c.in-Err.ensures.ready in
     λ _. subst (λ p. IsPassOf c.args.hall.now p) (sym after) (subst (λ h. IsPassOf h.now c.wait_until-2.new.attempt.pass.now) r.1 ready.0)
+
+pub returns-in_err-wait_until-clause-clear : goal.returns-in_err-wait_until-clause-clear
+returns-in_err-wait_until-clause-clear g c = let late = c.in_err-wait_until.field-0.0 in let r = c.in_err-wait_until.ensures.refuses.3 in let v = view c.args.pass.now in let w = view c.wait_until.new.attempt.pass.now in
+    let clear = none_pending_same v w (writers_looked maps v c.args.cell w (late.fault ∷ r.0) r.1).standings in search rules
+
+pub returns-in-Ok-clause-clear : goal.returns-in-Ok-clause-clear
+returns-in-Ok-clause-clear g c = let first = c.in_ok-wait_until.ensures.gives in let last = c.in-Ok.ensures.gives in
+    let between = c.pass-1.given.1 (sym first.0) in let after = c.pass-2-1.given.1 (sym last.0) in
+    subst (λ p. HasNonePending (view c.args.pass.now) → HasNonePending (view p)) (sym after)
+    (none_pending_at (view c.args.pass.now) (view c.wait_until-2.new.attempt.pass.now) c.args.cell (λ k ne. last.6.1 k ne ∙ ap (λ p. standing (view p) k) between ∙ first.4.1 k ne) (ap pending last.6.0))
+
+pub returns-in-Err-clause-clear : goal.returns-in-Err-clause-clear
+returns-in-Err-clause-clear g c = let one = c.in_ok-wait_until.ensures.gives in let r = c.in-Err.ensures.refuses in
+    let between = c.pass-1.given.1 (sym one.0) in let after = c.pass-2-1.given.1 (sym r.0) in let a = view c.pass-1.given.0 in let u = view c.wait_until-2.new.attempt.pass.now in
+    let looked = meetings_looked maps a c.args.cell u (c.in-Err.late.fault ∷ r.4.0) r.4.1 in
+    none_pending_at (view c.args.pass.now) (view c.retract.new.pass) c.args.cell
+    (λ k ne. c.retract.ensures.elsewhere k ne ∙ ap (λ p. standing (view p) k) after ∙ ap (λ l. slice_index_or l k Away) looked.standings ∙ ap (λ p. standing (view p) k) between ∙ one.4.1 k ne)
+    (ap pending c.retract.ensures.away)

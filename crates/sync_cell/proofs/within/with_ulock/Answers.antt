@@ -39,4 +39,5 @@ returns-clause-step g c = let taken = c.ulock-ptr.ensures in let back = c.unlock
       (taken.pass, taken.stands, taken.elsewhere, taken.step),
       said,
       subst (λ (k : ℕ). LeavesUpgrade maps (view c.f-answer.new.arg3) k back.0 (view c.unlock_upgrade_ptr.new.pass)) taken.cell back.1,
+      c.unlock_upgrade_ptr.ensures.clear,
     )

@@ -44,4 +44,5 @@ returns-clause-step g c = let taken = c.wlock-ptr.ensures in
       (taken.pass, taken.stands, taken.elsewhere, taken.step),
       said,
       subst (λ (k : ℕ). Releases maps (view c.f-answer.new.arg3) k 8 (view c.unlock_write.new.pass)) taken.cell c.unlock_write.ensures.step,
+      c.unlock_write.ensures.clear,
     )
