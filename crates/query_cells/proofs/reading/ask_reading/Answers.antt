@@ -14,7 +14,7 @@ use Rattle.query_cells.proofs.Tries.{one_in_order, refused_tried}
 use Rattle.query_cells.proofs.reading.ask_reading.Goals as goal
 
 pub hold_to_read-requires-clause-clear : goal.hold_to_read-requires-clause-clear
-hold_to_read-requires-clause-clear g c = λ k. ap pending (c.requires.idle.0 k)
+hold_to_read-requires-clause-clear g c κs within = λ k. ap pending (c.requires.idle.0 k)
 
 pub returns-in-Ok-clause-tells : goal.returns-in-Ok-clause-tells
 returns-in-Ok-clause-tells g c =
