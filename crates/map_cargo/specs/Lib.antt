@@ -7,6 +7,7 @@ pub mod Steps
 pub mod StepLaws
 pub mod Licences
 pub mod Gaining
+pub mod Sharing
 pub mod Probes
 pub mod Moments
 pub mod Rows

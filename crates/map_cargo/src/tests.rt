@@ -1,8 +1,10 @@
 //! What no clause says: that the words of a run are those that are meant.
 ghost use Rattle.std.specs.Prelude.{◌≡◌, ◌≢◌, ◌<◌, ◌≤◌, ◌+◌, ◌∷◌, ℕ};
+ghost use Rattle.hall.specs.Cargo.{shared_mode};
+ghost use Rattle.hall.specs.Fitting.{SharedFits};
 ghost use Rattle.hall.specs.Passes.{view, IsPassOf, cargo_of, shape_of};
-ghost use Rattle.hall.specs.Views.{standing};
-ghost use Rattle.hall.specs.declared.view.Standing.TheVariants.{Away, Inline, Exclusive};
+ghost use Rattle.hall.specs.Views.{standing, mode_of};
+ghost use Rattle.hall.specs.declared.view.Standing.TheVariants.{Away, Exclusive};
 ghost use Rattle.query_rules.specs.declared.query.Query.TheVariants.{TryGet};
 ghost use Rattle.query_rules.specs.declared.query.Reply.TheVariants.{Busy};
 ghost use Rattle.map_cargo.specs.declared.entry.Told.TheVariants as told;
@@ -55,7 +57,8 @@ fn shared<A: Abort>(
     requires cell { cell < (shape_of hall.now).locks }
     requires idle { IsIdle (view pass.old) }
     ensures pass { IsPassOf hall.now pass.new }
-    ensures held { (result.lock ≡ cell) × (standing (view pass.new) cell ≡ Inline) }
+    ensures held { (result.lock ≡ cell) × SharedFits (shape_of hall.now) (view pass.new) result }
+    ensures mode { mode_of (standing (view pass.new) cell) ≡ shared_mode }
     ensures others { (k : ℕ) → k ≢ cell → standing (view pass.new) k ≡ Away }
     ensures gained { Gained cell (view pass.old) (view pass.new) }
 {
@@ -84,8 +87,7 @@ fn leave(hall: &Hall<MapCargo>, pass: &mut Pass<MapCargo>, guard: ExclusiveGuard
 #[tactic(auto, using(crate::specs::Gaining::everywhere))]
 fn leave_shared(hall: &Hall<MapCargo>, pass: &mut Pass<MapCargo>, guard: SharedGuard)
     requires pass { IsPassOf hall.now pass.old }
-    requires cell { guard.lock < (shape_of hall.now).locks }
-    requires held { standing (view pass.old) guard.lock ≡ Inline }
+    requires held { SharedFits (shape_of hall.now) (view pass.old) guard }
     requires others { (k : ℕ) → k ≢ guard.lock → standing (view pass.old) k ≡ Away }
     requires rested { IsRested (view pass.old).part }
     ensures pass { IsPassOf hall.now pass.new }

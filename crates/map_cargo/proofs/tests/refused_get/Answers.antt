@@ -7,9 +7,11 @@ use Rattle.hall.specs.declared.view.Standing.TheVariants.{Away}
 use Rattle.hall.specs.declared.view.View.{View}
 use Rattle.hall.specs.Passes.{view}
 use Rattle.hall.specs.Refusals.{BusyForReading, joined_busy_reading}
-use Rattle.hall.specs.Views.{standing}
+use Rattle.hall.specs.Views.{pending, standing}
 use Rattle.shared_mutex.specs.Acquiring.{RefusesShared}
 use Rattle.shared_mutex.specs.Refused.{reader_refused, reads_in_all}
+use Rattle.shared_mutex.specs.TokenLaws.{reader_tried}
+use Rattle.shared_mutex.specs.Tokens.{OnlyTried}
 use Rattle.map_cargo.specs.declared.size.MapCargo.{MapCargo}
 use Rattle.map_cargo.specs.declared.entry.Part.{Part}
 use Rattle.map_cargo.proofs.tests.refused_get.Goals as goal
@@ -18,8 +20,12 @@ use Rattle.map_cargo.proofs.tests.refused_get.Goals as goal
 busy_read : (g : Ghosts MapCargo Part) (v w : View Part) (lock : ℕ) (fault : TryFault) (word : ℕ) → fault ≡ Busy word → standing v lock ≡ Away → RefusesShared g v lock w fault → BusyForReading w.shape w.number w.steps lock
 busy_read g v w lock fault word is away r =
     let s : RefusesShared g v lock w (Busy word) = subst (λ (f : TryFault). RefusesShared g v lock w f) is r in
+    let t : OnlyTried v lock Away w = reader_tried g v lock away w (Busy word) s in
     reads_in_all (λ shape number steps. BusyForReading shape number steps lock) (λ shape number steps others. joined_busy_reading shape number steps others lock)
-    v w (ap (λ (z : View Part). z.shape) s.1) (ap (λ (z : View Part). z.number) s.1) (reader_refused g v lock w (Busy word) away s)
+    v w t.shape t.number (reader_refused g v lock w (Busy word) away s)
+
+pub try_lock_shared-requires-clause-clear : goal.try_lock_shared-requires-clause-clear
+try_lock_shared-requires-clause-clear g c = λ k. ap pending (c.requires.idle.0 k)
 
 pub note_refused-requires-clause-may : goal.note_refused-requires-clause-may
 note_refused-requires-clause-may g c =
