@@ -152,4 +152,6 @@ pub fn leave_deferred<C: Cargo>(
 }
 
 #[cfg(test)]
+mod interleaved;
+#[cfg(test)]
 mod tests;

@@ -35,7 +35,7 @@ fn enters<A: Abort>(rt: &A, hall: &Hall<NoCargo>, pass: &mut Pass<NoCargo>, seen
 }
 
 // A retraction lets readers defer: the word is 1.
-fn let_defer<A: Abort>(rt: &A, hall: &Hall<NoCargo>, pass: &mut Pass<NoCargo>)
+pub(crate) fn let_defer<A: Abort>(rt: &A, hall: &Hall<NoCargo>, pass: &mut Pass<NoCargo>)
     requires pass { IsPassOf hall.now pass.old × (0 < (shape_of hall.now).locks) }
     requires away { standing (view pass.old) 0 ≡ Away }
     ensures pass { IsPassOf hall.now pass.new }

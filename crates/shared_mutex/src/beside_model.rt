@@ -32,12 +32,12 @@ struct Stand {
 }
 
 impl Stand {
-    // Away, with no guard.
-    fn outside() -> Stand
-        ensures { result ≡ record { role = Outside; form = Lowered } }
+    // A role with no guard of a reader.
+    fn of(role: Role) -> Stand
+        ensures { result ≡ record { role = role; form = Lowered } }
     {
         Stand {
-            role: Role::Outside,
+            role,
             form: Form::Lowered,
         }
     }
@@ -81,15 +81,14 @@ fn call(hall: &Hall<NoCargo>, pass: &mut Pass<NoCargo>, stand: Stand, act: Act) 
     requires lock { 0 < (shape_of hall.now).locks }
     ensures { HasRole hall.now pass.new result.role result.form }
 {
-    let form = stand.form;
-    let role = match (act, stand.role) {
-        (Act::EnterShared, Role::Outside) => return enter(hall, pass),
+    match (act, stand.role) {
+        (Act::EnterShared, Role::Outside) => enter(hall, pass),
         (Act::Announce, Role::Outside) => match announce(hall, pass, 0) {
             Ok(mut announced) => {
                 scan(hall, pass, &mut announced);
-                noted(announced)
+                Stand::of(noted(announced))
             }
-            Err(_) => Role::Outside,
+            Err(_) => Stand::of(Role::Outside),
         },
         (
             Act::TakeExclusive,
@@ -97,8 +96,8 @@ fn call(hall: &Hall<NoCargo>, pass: &mut Pass<NoCargo>, stand: Stand, act: Act) 
                 from_upgrade: false,
             },
         ) => match try_finish(hall, pass, announced()) {
-            Ok(ExclusiveGuard { lock: _ }) => Role::Holds(Mode::Exclusive),
-            Err((announced, _)) => noted(announced),
+            Ok(ExclusiveGuard { lock: _ }) => Stand::of(Role::Holds(Mode::Exclusive)),
+            Err((announced, _)) => Stand::of(noted(announced)),
         },
         (
             Act::Retract,
@@ -107,19 +106,19 @@ fn call(hall: &Hall<NoCargo>, pass: &mut Pass<NoCargo>, stand: Stand, act: Act) 
             },
         ) => {
             retract(hall, pass, announced());
-            Role::Outside
+            Stand::of(Role::Outside)
         }
         (Act::Leave, Role::Holds(Mode::Shared)) => {
+            let form = stand.form;
             unlock_shared(hall, pass, SharedGuard { lock: 0, form });
-            Role::Outside
+            Stand::of(Role::Outside)
         }
         (Act::Leave, Role::Holds(Mode::Exclusive)) => {
             unlock(hall, pass, ExclusiveGuard { lock: 0 });
-            Role::Outside
+            Stand::of(Role::Outside)
         }
-        (_, role) => role,
-    };
-    Stand { role, form }
+        _ => stand,
+    }
 }
 
 fn enter(hall: &Hall<NoCargo>, pass: &mut Pass<NoCargo>) -> Stand
@@ -132,7 +131,7 @@ fn enter(hall: &Hall<NoCargo>, pass: &mut Pass<NoCargo>) -> Stand
             role: Role::Holds(Mode::Shared),
             form,
         },
-        Err(_) => Stand::outside(),
+        Err(_) => Stand::of(Role::Outside),
     }
 }
 
@@ -216,7 +215,8 @@ fn sequence<A: Abort>(
     ensures two { IsIdle hall.now two.new }
     ensures three { IsIdle hall.now three.new }
 {
-    let mut stands = (Stand::outside(), Stand::outside(), Stand::outside());
+    let outside = Stand::of(Role::Outside);
+    let mut stands = (outside, outside, outside);
     let mut rest = code;
     for _ in 0..STEPS {
         let act = act_of(rest / SEATS);

@@ -87,33 +87,30 @@ fn from_outside(hall: &Hall<NoCargo>, pass: &mut Pass<NoCargo>, act: Act) -> Sta
     requires lock { 0 < (shape_of hall.now).locks }
     ensures { HasRole hall.now pass.new result.role result.form }
 {
-    let role = match act {
+    match act {
         Act::EnterShared => match try_lock_shared(hall, pass, 0) {
-            Ok(SharedGuard { lock: _, form }) => {
-                return Stand {
-                    role: Role::Holds(Mode::Shared),
-                    form,
-                };
-            }
-            Err(_) => Role::Outside,
+            Ok(SharedGuard { lock: _, form }) => Stand {
+                role: Role::Holds(Mode::Shared),
+                form,
+            },
+            Err(_) => Stand::of(Role::Outside),
         },
         Act::EnterUpgrade => match try_lock_upgrade(hall, pass, 0) {
-            Ok(UpgradeGuard { lock: _ }) => Role::Holds(Mode::Upgrade),
-            Err(_) => Role::Outside,
+            Ok(UpgradeGuard { lock: _ }) => Stand::of(Role::Holds(Mode::Upgrade)),
+            Err(_) => Stand::of(Role::Outside),
         },
         Act::Announce => match announce(hall, pass, 0) {
             Ok(mut announced) => {
                 scan(hall, pass, &mut announced);
                 let_go(announced);
-                Role::Announces {
+                Stand::of(Role::Announces {
                     from_upgrade: false,
-                }
+                })
             }
-            Err(_) => Role::Outside,
+            Err(_) => Stand::of(Role::Outside),
         },
-        _ => Role::Outside,
-    };
-    Stand::of(role)
+        _ => Stand::of(Role::Outside),
+    }
 }
 
 // The call of an upgrade holder.
@@ -238,24 +235,23 @@ fn call(hall: &Hall<NoCargo>, pass: &mut Pass<NoCargo>, stand: Stand, act: Act) 
     requires lock { 0 < (shape_of hall.now).locks }
     ensures { HasRole hall.now pass.new result.role result.form }
 {
-    let role = match stand.role {
-        Role::Outside => return from_outside(hall, pass, act),
+    match stand.role {
+        Role::Outside => from_outside(hall, pass, act),
         Role::Holds(Mode::Shared) => {
             if act != Act::Leave {
                 return stand;
             }
             let form = stand.form;
             unlock_shared(hall, pass, SharedGuard { lock: 0, form });
-            Role::Outside
+            Stand::of(Role::Outside)
         }
-        Role::Holds(Mode::Upgrade) => from_upgrade(hall, pass, act),
-        Role::Holds(Mode::Exclusive) => from_exclusive(hall, pass, act),
+        Role::Holds(Mode::Upgrade) => Stand::of(from_upgrade(hall, pass, act)),
+        Role::Holds(Mode::Exclusive) => Stand::of(from_exclusive(hall, pass, act)),
         Role::Announces {
             from_upgrade: false,
-        } => from_announced(hall, pass, act),
-        Role::Announces { from_upgrade: true } => from_raised(hall, pass, act),
-    };
-    Stand::of(role)
+        } => Stand::of(from_announced(hall, pass, act)),
+        Role::Announces { from_upgrade: true } => Stand::of(from_raised(hall, pass, act)),
+    }
 }
 
 // The word has the bits of the roles in the model. While readers may not defer its count is that of the readers; else some
