@@ -7,14 +7,13 @@ use Rattle.hall.specs.declared.view.Standing.TheVariants.{Away}
 use Rattle.hall.specs.declared.view.View.{View}
 use Rattle.hall.specs.Passes.{view}
 use Rattle.hall.specs.Refusals.{BusyForReading, joined_busy_reading}
-use Rattle.hall.specs.Views.{standing}
+use Rattle.hall.specs.Views.{pending, standing}
 use Rattle.shared_mutex.specs.Acquiring.{RefusesShared}
 use Rattle.shared_mutex.specs.Refused.{reader_refused, reads_in_all}
 use Rattle.shared_mutex.specs.TokenLaws.{reader_tried}
 use Rattle.shared_mutex.specs.Tokens.{OnlyTried}
 use Rattle.map_cargo.specs.declared.size.MapCargo.{MapCargo}
 use Rattle.map_cargo.specs.declared.entry.Part.{Part}
-use Rattle.map_cargo.specs.Gaining.{away_clear}
 use Rattle.map_cargo.proofs.tests.refused_get.Goals as goal
 
 -- a try that was busy has the read among the pass's steps
@@ -26,7 +25,7 @@ busy_read g v w lock fault word is away r =
     v w t.shape t.number (reader_refused g v lock w (Busy word) away s)
 
 pub try_lock_shared-requires-clause-clear : goal.try_lock_shared-requires-clause-clear
-try_lock_shared-requires-clause-clear g c = away_clear (view c.args.pass.now) c.requires.idle.0
+try_lock_shared-requires-clause-clear g c κs within = λ k. ap pending (c.requires.idle.0 k)
 
 pub note_refused-requires-clause-may : goal.note_refused-requires-clause-may
 note_refused-requires-clause-may g c =

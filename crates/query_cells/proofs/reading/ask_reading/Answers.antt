@@ -3,7 +3,7 @@ use Rattle.hall.specs.declared.view.Shape.{Shape}
 use Rattle.hall.specs.Passes.{view, cargo_of}
 use Rattle.hall.specs.Treading.{IsWeakAt, treads_none, treads_then}
 use Rattle.query_rules.specs.declared.query.Reply.{Reply}
-use Rattle.map_cargo.specs.Gaining.{away_clear}
+use Rattle.hall.specs.Views.{pending}
 use Rattle.query_cells.specs.Answers.{cell_of}
 use Rattle.query_cells.specs.Asked.{AsksClock, IsLateBy}
 use Rattle.query_cells.proofs.Refusing.{is_forced, may_refuse}
@@ -14,7 +14,7 @@ use Rattle.query_cells.proofs.Tries.{one_in_order, refused_tried}
 use Rattle.query_cells.proofs.reading.ask_reading.Goals as goal
 
 pub hold_to_read-requires-clause-clear : goal.hold_to_read-requires-clause-clear
-hold_to_read-requires-clause-clear g c = away_clear (view c.args.pass.now) c.requires.idle.0
+hold_to_read-requires-clause-clear g c κs within = λ k. ap pending (c.requires.idle.0 k)
 
 pub returns-in-Ok-clause-tells : goal.returns-in-Ok-clause-tells
 returns-in-Ok-clause-tells g c =
