@@ -99,7 +99,7 @@ module _ {P : Type 0} (rule : Goods P → Type 0) (nodes : ℕ) where
       let rested : Mine Unused (at n) = subst (λ (z : OwnSlot P). Mine z (at n)) own seat.0 in
       let q : Queued nodes s.words ((x, b, Some j) ∷ o.older) o.newer k.first k.end k.mark = subst (λ (z : Option (Next P)). Queued nodes s.words (front z o.older) o.newer k.first k.end k.mark) next h.0 in
       let one : k.mark ≡ 1 = q.taken (omega arith) in
-      let t : Taken j (at x) = subst (HasTaken at) next h.5 in
+      let t : Taken b j (at x) = subst (HasTaken at) next h.5 in
       let owned : owner_weight {P = P} (awake x) o.owner ≡ same n x + line_weight {P = P} (awake x) (front k.next []) = ap (owner_weight (awake x)) (o.owned id m.0 k me mine) in
       let fronted : line_weight {P = P} (awake x) (front k.next []) ≡ same x x + 0 = ap (λ (z : Option (Next P)). line_weight {P = P} (awake x) (front z [])) next in
       let counted = once rule nodes s o x in let here = same-refl x in

@@ -68,15 +68,19 @@ module _ {P : Type 0} where
     done-link [] h = tt
     done-link (x ∷ xs) h = ((h.0.0, h.0.1, keeps-fact (Finished h.0.0) (λ d l f. f) x.0 h.0.2), done-link xs h.1)
 
-    taken-link : (y : Option (Next P)) → HasTaken at y → HasTaken at' y
-    taken-link None h = tt
-    taken-link (Some x) h = keeps-fact (Taken x.job) (λ d l f. f) x.node h
+    taken-link : (y : Option (Next P)) → has k (front y []) ≤ line_weight {P = P} (waits_at k b) (front y []) → HasTaken at y → HasTaken at' y
+    taken-link None all h = tt
+    taken-link (Some x) all h = dite (ℕ_discrete x.node k)
+        (λ e. let same-b : x.behind ≡ b = same-pos x.behind b (omega (arith, all, same-eq x.node k e, ap {B = ℕ} (λ t. cond t (same x.behind b) 0) (eq-eqb x.node k e))) in
+        let t : Taken x.behind x.job (at k) = subst (λ i. Taken x.behind x.job (at i)) e h in
+        subst (λ i. Taken x.behind x.job (at' i)) (sym e) (subst (Taken x.behind x.job) (sym here) (t.0, t.1, t.2, t.3, t.4, sym same-b)))
+        (λ ne. subst (Taken x.behind x.job) (sym (elsewhere x.node ne)) h)
 
-    held-link : (nodes : ℕ) (words words' : List ℕ) (homes : List (Maybe (Option P))) (older newer : List (Waiter P)) (value : P) (o : Owner P) → get_or words' 0 0 ≡ get_or words 0 0
+    held-link : (nodes : ℕ) (words words' : List ℕ) (homes : List (Maybe (Option P))) (older newer : List (Waiter P)) (value : P) (o : Owner P) → owner_weight (awake k) o ≤ owner_weight {P = P} (waits_at k b) o → get_or words' 0 0 ≡ get_or words 0 0
         → Held nodes words homes at older newer value o → Held nodes words' homes at' older newer value o
-    held-link nodes words words' homes older newer value nobody c h = (c ∙ h.0, h.1, h.2, h.3)
-    held-link nodes words words' homes older newer value (turn n r) c h = (queued-words nodes words words' (front r.next older) newer r.first r.end r.mark c h.0, h.1, h.2, h.3, h.4, taken-link r.next h.5, h.6)
-    held-link nodes words words' homes older newer value (granted n q j e) c h = (queued-words nodes words words' older newer q e 1 c h.0, keeps-fact (Granted j e) (λ d l f. (f.0, f.1, f.2, keeps-link j d l f.3)) n h.1, h.2)
+    held-link nodes words words' homes older newer value nobody all c h = (c ∙ h.0, h.1, h.2, h.3)
+    held-link nodes words words' homes older newer value (turn n r) all c h = (queued-words nodes words words' (front r.next older) newer r.first r.end r.mark c h.0, h.1, h.2, h.3, h.4, taken-link r.next (omega (arith, all)) h.5, h.6)
+    held-link nodes words words' homes older newer value (granted n q j e) all c h = (queued-words nodes words words' older newer q e 1 c h.0, keeps-fact (Granted j e) (λ d l f. (f.0, f.1, f.2, keeps-link j d l f.3)) n h.1, h.2)
 
 module _ {P : Type 0} (rule : Goods P → Type 0) (nodes : ℕ) where
   pub links : (slots id : ℕ) (m : SeatState P) (b i : ℕ) (j : Option P) → m.0.stage ≡ Behind b j → i ≡ 2 + 2 * m.0.number → Allows (Lawful rule nodes) slots id m i (λ _. b) (λ _. linking (step slots i b 0 none) m b)
@@ -105,7 +109,7 @@ module _ {P : Type 0} (rule : Goods P → Type 0) (nodes : ℕ) where
             (waits-link at at' n b elsewhere here o.older (omega (arith, ats-le P n b o.older, ats-le P n b o.newer, ats-le P n b o.done)) o.old_waits)
             (waits-link at at' n b elsewhere here o.newer (omega (arith, ats-le P n b o.older, ats-le P n b o.newer, ats-le P n b o.done)) o.new_waits)
             (done-link at at' n b elsewhere here o.done o.finished)
-            (held-link at at' n b elsewhere here nodes s.words words s.homes o.older o.newer o.value o.owner (get_or-set_other s.words (2 + 2 * n) 0 b 0 (λ e. omega arith)) o.held)
+            (held-link at at' n b elsewhere here nodes s.words words s.homes o.older o.newer o.value o.owner (omega (arith, ats-le P n b o.older, ats-le P n b o.newer, ats-le P n b o.done)) (get_or-set_other s.words (2 + 2 * n) 0 b 0 (λ e. omega arith)) o.held)
             (subst (λ ps. rule (goods o.value o.posted o.answered ps)) (sym (map-set_same part_of s.views id m.0 w me refl)) o.goods_rule)),
         refl,
       )

@@ -184,7 +184,7 @@ module _ {P : Type 0} where
 
     pub taken-other : (y : Option (Next P)) → has k (front y []) ≡ 0 → HasTaken at y → HasTaken at' y
     taken-other None none-there h = tt
-    taken-other (Some x) none-there h = subst (Taken x.job) (sym (elsewhere x.node (λ e. omega (arith, same-eq x.node k e)))) h
+    taken-other (Some x) none-there h = subst (Taken x.behind x.job) (sym (elsewhere x.node (λ e. omega (arith, same-eq x.node k e)))) h
 
 pub queued-words : {P : Type 0} (nodes : ℕ) (words words' : List ℕ) (older newer : List (Waiter P)) (f e m : ℕ) → get_or words' 0 0 ≡ get_or words 0 0 → Queued nodes words older newer f e m → Queued nodes words' older newer f e m
 queued-words nodes words words' older newer f e m c q = record {

@@ -94,6 +94,7 @@ module _ {P : Type 0} (rule : Goods P → Type 0) (nodes : ℕ) where
                 set_here homes₁ (2 + 2 * x) none (omega (arith, o.long, length-set s.homes (1 + 2 * x) none)),
                 waits.0.4.1,
                 waits.0.3,
+                sym read,
               ),
               tt,
             )
@@ -111,7 +112,7 @@ module _ {P : Type 0} (rule : Goods P → Type 0) (nodes : ℕ) where
       let h = held_by rule nodes s o id m.0 k me mine in
       let live-now = live-owner rule nodes s o id m.0 k me mine in
       let q : Queued nodes s.words ((x, b, Some j) ∷ o.older) o.newer k.first k.end k.mark = subst (λ (y : Option (Next P)). Queued nodes s.words (front y o.older) o.newer k.first k.end k.mark) next h.0 in
-      let t : Taken j (at x) = subst (HasTaken at) next h.5 in
+      let t : Taken b j (at x) = subst (HasTaken at) next h.5 in
       let r : Ownership P = served k b now in
       let w : View P = with_steps m.0 (Owns r) steps in
       let words : List ℕ = set s.words (1 + 2 * x) 3 in

@@ -81,7 +81,7 @@ module _ {P : Type 0} where
 
   -- a node whose slots the owner has taken, or one that waits
   abbrev pub Seen : ℕ → Option P → Desk P → Type 0
-  Seen b h d = Waits b h d ⊎ ((j : P) × (h ≡ Some j) × Taken j d)
+  Seen b h d = Waits b h d ⊎ ((j : P) × (h ≡ Some j) × Taken b j d)
 
   front-seen : (at : ℕ → Desk P) (y : Option (Next P)) (xs : List (Waiter P)) → AllWait at xs → HasTaken at y → (i : ℕ) (x : Waiter P) → get_elem? (front y xs) i ≡ some x → Seen x.1 x.2 (at x.0)
   front-seen at None xs w t i x e = inl (all-status at xs w i x e)
@@ -96,7 +96,7 @@ module _ {P : Type 0} where
   whole-seen nodes words homes at (granted n b j e') older newer value w h i x e = inl (all-status at older w i x e)
 
   pub seen-status : (b : ℕ) (h : Option P) (d : Desk P) → Seen b h d → d.status ≡ kind h
-  seen-status b h d = ⊎_elim (λ (w : Waits b h d). w.1) (λ (t : (j : P) × (h ≡ Some j) × Taken j d). t.2.0 ∙ ap (λ (y : Option P). kind y) (sym t.1))
+  seen-status b h d = ⊎_elim (λ (w : Waits b h d). w.1) (λ (t : (j : P) × (h ≡ Some j) × Taken b j d). t.2.0 ∙ ap (λ (y : Option P). kind y) (sym t.1))
 
   -- where a weight counts this stage, it is that of a node which waits so
   kinded-stage : (n b t m : ℕ) (g : Stage P) → 0 < kinded n b t m g → (h : Option P) × (g ≡ Behind b h) × (m ≡ n) × (kind h ≡ t)
@@ -238,7 +238,7 @@ module _ {P : Type 0} (rule : Goods P → Type 0) (nodes : ℕ) (s : State (Opti
   pub still_posted : (j b : ℕ) (v : View P) (job : P) → get_elem? s.views j ≡ some v → IsWaiting s.words v b (Some job) → o.posted v.number ≡ some job
   still_posted j b v job there w =
       let t = in-line j b v (Some job) there w in
-      let none-yet : (at v.number).answered ≡ none = ⊎_elim (λ (y : Waits t.1.1 t.1.2 (at v.number)). y.3) (λ (y : (i : P) × (t.1.2 ≡ Some i) × Taken i (at v.number)). y.2.4) t.5 in
+      let none-yet : (at v.number).answered ≡ none = ⊎_elim (λ (y : Waits t.1.1 t.1.2 (at v.number)). y.3) (λ (y : (i : P) × (t.1.2 ≡ Some i) × Taken t.1.1 i (at v.number)). y.2.4) t.5 in
       ⊎_elim (λ (z : (at v.number).posted ≡ some job). z) (λ (z : (a : P) × ((at v.number).answered ≡ some (job, a))). absurd (some-ne-none (job, z.0) (sym z.1 ∙ none-yet))) (note j b v (Some job) there w.0)
 
   owner-turn : (w : Owner P) → o.owner ≡ w → (k : Ownership P) (n : ℕ) → o.owner ≡ turn n k → Line k.first (whole o.owner o.older) k.end × Line (get_or s.words 0 0) o.newer k.mark
@@ -258,12 +258,12 @@ module _ {P : Type 0} (rule : Goods P → Type 0) (nodes : ℕ) (s : State (Opti
   job-there b c (Some i) v job mine note two seen = ⊎_elim
       (λ (w : Waits c (Some i) (at v.number)). inl (w.4.0 ∙ ap (λ (y : P). some (some (Some y)))
       (⊎_elim (λ (z : (at v.number).posted ≡ some job). some-injective i job (sym w.4.1 ∙ z)) (λ (z : (a : P) × ((at v.number).answered ≡ some (job, a))). absurd (some-ne-none (job, z.0) (sym z.1 ∙ w.3))) note)))
-      (λ (t : (j : P) × (Some i ≡ Some j) × Taken j (at v.number)). inr t.2.1) seen
+      (λ (t : (j : P) × (Some i ≡ Some j) × Taken c j (at v.number)). inr t.2.1) seen
 
-  link-there : (b c : ℕ) (x : Option P) (n : ℕ) → c ≡ b → Seen c x (at n) → (link_at s.words n ≡ 0) ⊎ (link_at s.words n ≡ b) ⊎ IsOut (get_elem? s.homes (1 + 2 * n))
+  link-there : (b c : ℕ) (x : Option P) (n : ℕ) → c ≡ b → Seen c x (at n) → (link_at s.words n ≡ 0) ⊎ (link_at s.words n ≡ b)
   link-there b c x n is = ⊎_elim
-      (λ (w : Waits c x (at n)). ⊎_elim (λ (z : (at n).link ≡ 0). inl z) (λ (z : (at n).link ≡ c). inr (inl (z ∙ is))) w.0)
-      (λ (t : (j : P) × (x ≡ Some j) × Taken j (at n)). inr (inr t.2.1))
+      (λ (w : Waits c x (at n)). ⊎_elim (λ (z : (at n).link ≡ 0). inl z) (λ (z : (at n).link ≡ c). inr (z ∙ is)) w.0)
+      (λ (t : (j : P) × (x ≡ Some j) × Taken c j (at n)). inr (t.2.5 ∙ is))
 
   waiting-number : (i : ℕ) (x : Waiter P) → (get_elem? (whole o.owner o.older) i ≡ some x) ⊎ (get_elem? o.newer i ≡ some x) → (j : ℕ) × (v : View P) × (h : Option P) × (get_elem? s.views j ≡ some v) × (v.number ≡ x.0) × IsWaiting s.words v x.1 h
   waiting-number i x there =

@@ -106,9 +106,9 @@ module _ {P : Type 0} where
   abbrev pub Waits : ℕ → Option P → Desk P → Type 0
   Waits behind job d = ((d.link ≡ 0) ⊎ (d.link ≡ behind)) × (d.status ≡ kind job) × Home d.answer × (d.answered ≡ none) × Keeps job d
 
-  -- the owner has taken the node's two slots, and is to run its job
-  abbrev pub Taken : P → Desk P → Type 0
-  Taken j d = (d.status ≡ 2) × IsOut d.job × IsOut d.answer × (d.posted ≡ some j) × (d.answered ≡ none)
+  -- the owner has taken the node's two slots, and is to run its job; the node has stored what it is behind in its link
+  abbrev pub Taken : ℕ → P → Desk P → Type 0
+  Taken behind j d = (d.status ≡ 2) × IsOut d.job × IsOut d.answer × (d.posted ≡ some j) × (d.answered ≡ none) × (d.link ≡ behind)
 
   -- the node's job has run, and its answer lies in its slot
   abbrev pub Finished : P → Desk P → Type 0
@@ -160,7 +160,7 @@ module _ {P : Type 0} where
 
   abbrev pub HasTaken : (ℕ → Desk P) → Option (Next P) → Type 0
   HasTaken at None = Unit {0}
-  HasTaken at (Some x) = Taken x.job (at x.node)
+  HasTaken at (Some x) = Taken x.behind x.job (at x.node)
 
   abbrev pub AtHome : List (Maybe (Option P)) → P → Type 0
   AtHome homes value = get_elem? homes 0 ≡ some (some (Some value))

@@ -58,8 +58,8 @@ module _ {P : Type 0} where
     -- the lines run from word to word: the owner's from its first word to its end, the newer one from the central word to the owner's mark
     pub turn_lines : (j : ℕ) (v : View P) (k : Ownership P) → get_elem? s.views j ≡ some v → HasNotes v k → Line k.first older k.end × Line (slice_index s.words 0) newer k.mark
     pub granted_lines : (j b : ℕ) (v : View P) → get_elem? s.views j ≡ some v → IsGranted s.words v b → Line b older (status_at s.words v.number - 4) × Line (slice_index s.words 0) newer 1
-    -- a waiting node's link is 0 or the word that its swap found, unless the owner has taken its slots, to run its job
-    pub links : (j b : ℕ) (v : View P) (h : Option P) → get_elem? s.views j ≡ some v → IsWaiting s.words v b h → (link_at s.words v.number ≡ 0) ⊎ (link_at s.words v.number ≡ b) ⊎ IsOut (get_elem? s.homes (1 + 2 * v.number))
+    -- a waiting node's link is 0 or the word that its swap found
+    pub links : (j b : ℕ) (v : View P) (h : Option P) → get_elem? s.views j ≡ some v → IsWaiting s.words v b h → (link_at s.words v.number ≡ 0) ⊎ (link_at s.words v.number ≡ b)
     -- the value stands in slot 0 unless a pass has the turn
     pub value : ((j : ℕ) (v : View P) (k : Ownership P) → get_elem? s.views j ≡ some v → HasNotes v k → ⊥) → (y : P) × Filled (get_elem? s.homes 0) y
     -- the job of a node that waits with one stands in its job slot, unless the owner has taken it
