@@ -123,6 +123,21 @@ fn finished<A: Abort>(
     }
 }
 
+// A slot has this word, which isn't 0. Who isn't inside learns it from an exchange that fails.
+fn slot_has<A: Abort>(rt: &A, hall: &Hall<NoCargo>, pass: &mut Pass<NoCargo>, slot: u64, word: u64)
+    requires pass { IsPassOf hall.now pass.old × (0 < (shape_of hall.now).locks) }
+    requires slot { slot < (shape_of hall.now).slots }
+    requires away { standing (view pass.old) 0 ≡ Away }
+    requires clear { HasNonePending (view pass.old) }
+    ensures pass { IsPassOf hall.now pass.new }
+    ensures away { standing (view pass.new) 0 ≡ Away }
+{
+    match hall.place_slot(pass, 0, slot) {
+        Ok(()) => rt.abort(),
+        Err(found) => assert_eq!(rt; found, word),
+    }
+}
+
 // A writer comes beside three readers that the count has and one in a slot. It sweeps the slot's unit into the count, finds
 // the readers, and gives up; the reader finds its slot cleared, and leaves by the count.
 #[test]
@@ -142,6 +157,7 @@ fn is_swept(rt: HostRuntime) {
     );
     let deferred = enters_by(&rt, &hall, &mut three, Form::Deferred { slot: 6 });
     word_is(&rt, &hall, &mut three, 3 * ONE + 1);
+    slot_has(&rt, &hall, &mut four, 6, 1);
     let announced = announced(&rt, &hall, &mut four);
     word_is(&rt, &hall, &mut four, 3 * ONE + 4);
     let announced = swept(&rt, &hall, &mut four, announced, 1);
@@ -224,6 +240,17 @@ fn passes<A: Abort>(rt: &A, hall: &Hall<NoCargo>, pass: &mut Pass<NoCargo>, slot
     assert!(rt; found == 0);
 }
 
+// The sweep is over: its unit goes to the count, which is -1.
+fn adds_its_unit<A: Abort>(rt: &A, hall: &Hall<NoCargo>, pass: &mut Pass<NoCargo>)
+    requires pass { IsPassOf hall.now pass.old × (0 < (shape_of hall.now).locks) }
+    requires announced { standing (view pass.old) 0 ≡ Announcing (shape_of hall.now).slots 1 false }
+    ensures pass { IsPassOf hall.now pass.new }
+    ensures announced { standing (view pass.new) 0 ≡ Announcing (shape_of hall.now).slots 0 false }
+{
+    let found = hall.add_hand(pass, 0, 1);
+    assert_eq!(rt; found.count(), -1);
+}
+
 // A writer pauses with a unit in its hand, which no slot and no count has. The reader finds its slot cleared, and gives a
 // unit back to a count of 0, which is -1 then. The writer goes on: its unit makes the count 0 again, and it takes the lock.
 #[test]
@@ -244,7 +271,7 @@ fn a_writer_pauses_with_a_unit_in_its_hand(rt: HostRuntime) {
     unlock_shared(&hall, &mut one, deferred);
     assert_eq!(rt; hall.load(&mut one, 0).count(), -1);
     passes(&rt, &hall, &mut zero, 1);
-    hall.add_hand(&mut zero, 0, 1);
+    adds_its_unit(&rt, &hall, &mut zero);
     announced.swept = true;
     word_is(&rt, &hall, &mut zero, 4);
     let guard = finished(&rt, &hall, &mut zero, announced);

@@ -1,8 +1,8 @@
 //! What no clause says: that the words are those that are meant, step by step, and that tries succeed where nobody is
 //! in the way.
-ghost use Rattle.std.specs.Prelude.{◌≡◌, ◌<◌, Result, Ok, IfOk};
+ghost use Rattle.std.specs.Prelude.{◌≡◌, ◌<◌, true, false};
 ghost use Rattle.std.specs.Thread.{IsSync};
-ghost use Rattle.hall.specs.Fitting.{SharedFits};
+ghost use Rattle.hall.specs.Fitting.{SharedFits, AnnouncedFits};
 ghost use Rattle.hall.specs.Passes.{view, IsPassOf, shape_of};
 ghost use Rattle.hall.specs.Slotting.{HasNonePending};
 ghost use Rattle.hall.specs.Views.{standing};
@@ -11,7 +11,7 @@ ghost use Rattle.shared_mutex.specs.Beside.{IsIdle};
 
 use crate::{announce, retract, try_finish, try_lock, try_lock_shared, unlock, unlock_shared};
 use apply_deferred::scan;
-use hall::{ExclusiveGuard, Hall, NoCargo, Pass, Policy, SharedGuard, TryFault, Word};
+use hall::{Announced, ExclusiveGuard, Hall, NoCargo, Pass, Policy, SharedGuard, TryFault, Word};
 use lock_model::{Act, Event, ModelLock};
 use std::process::Abort;
 use std::sync::Wait;
@@ -201,6 +201,37 @@ fn reader_beside<A: Abort>(
     }
 }
 
+// A writer that has swept tries to finish, beside the model, and is away afterwards.
+fn finishes_beside<A: Abort>(
+    rt: &A,
+    hall: &Hall<NoCargo>,
+    pass: &mut Pass<NoCargo>,
+    model: &mut ModelLock,
+    announced: Announced,
+)
+    requires pass { IsPassOf hall.now pass.old × (0 < (shape_of hall.now).locks) }
+    requires announced { (announced.lock ≡ 0) × (announced.swept ≡ true) × (announced.from_upgrade ≡ false) }
+    requires fits { AnnouncedFits (shape_of hall.now) (view pass.old) announced }
+    requires clear { HasNonePending (view pass.old) }
+    ensures pass { IsPassOf hall.now pass.new }
+    ensures away { standing (view pass.new) 0 ≡ Away }
+    ensures clear { HasNonePending (view pass.new) }
+{
+    let seat = pass.number();
+    match try_finish(hall, pass, announced) {
+        Ok(guard) => {
+            agrees(rt, model, seat, Act::TakeExclusive, true);
+            unlock(hall, pass, guard);
+            agrees(rt, model, seat, Act::Leave, true);
+        }
+        Err((announced, _)) => {
+            agrees(rt, model, seat, Act::TakeExclusive, false);
+            retract(hall, pass, announced);
+            agrees(rt, model, seat, Act::Retract, true);
+        }
+    }
+}
+
 // A writer tries, beside the model, and leaves again.
 fn writer_beside<A: Abort>(
     rt: &A,
@@ -220,18 +251,7 @@ fn writer_beside<A: Abort>(
         Ok(mut announced) => {
             agrees(rt, model, seat, Act::Announce, true);
             scan(hall, pass, &mut announced);
-            match try_finish(hall, pass, announced) {
-                Ok(guard) => {
-                    agrees(rt, model, seat, Act::TakeExclusive, true);
-                    unlock(hall, pass, guard);
-                    agrees(rt, model, seat, Act::Leave, true);
-                }
-                Err((announced, _)) => {
-                    agrees(rt, model, seat, Act::TakeExclusive, false);
-                    retract(hall, pass, announced);
-                    agrees(rt, model, seat, Act::Retract, true);
-                }
-            }
+            finishes_beside(rt, hall, pass, model, announced);
         }
         Err(_) => agrees(rt, model, seat, Act::Announce, false),
     }
@@ -291,6 +311,34 @@ fn as_the_model_does(rt: HostRuntime) {
     }
 }
 
+// Tries once to read, and says whether it did.
+fn reads(hall: &Hall<NoCargo>, pass: &mut Pass<NoCargo>) -> bool
+    requires pass { IsIdle hall.now pass.old × (0 < (shape_of hall.now).locks) }
+    ensures { IsIdle hall.now pass.new }
+{
+    match try_lock_shared(hall, pass, 0) {
+        Ok(guard) => {
+            unlock_shared(hall, pass, guard);
+            true
+        }
+        Err(_) => false,
+    }
+}
+
+// Tries once to write, and says whether it did.
+fn writes(hall: &Hall<NoCargo>, pass: &mut Pass<NoCargo>) -> bool
+    requires pass { IsIdle hall.now pass.old × (0 < (shape_of hall.now).locks) }
+    ensures { IsIdle hall.now pass.new }
+{
+    match try_lock(hall, pass, 0) {
+        Ok(guard) => {
+            unlock(hall, pass, guard);
+            true
+        }
+        Err(_) => false,
+    }
+}
+
 // Tries again and again for each kind of hold, and answers how many it gained.
 fn hammer(hall: &Hall<NoCargo>, pass: &mut Pass<NoCargo>, times: u32) -> u32
     requires pass { IsIdle hall.now pass.old × (0 < (shape_of hall.now).locks) }
@@ -298,12 +346,10 @@ fn hammer(hall: &Hall<NoCargo>, pass: &mut Pass<NoCargo>, times: u32) -> u32
 {
     let mut gained = 0u32;
     for _ in 0..times {
-        if let Ok(guard) = try_lock_shared(hall, pass, 0) {
-            unlock_shared(hall, pass, guard);
+        if reads(hall, pass) {
             gained = gained.saturating_add(1);
         }
-        if let Ok(guard) = try_lock(hall, pass, 0) {
-            unlock(hall, pass, guard);
+        if writes(hall, pass) {
             gained = gained.saturating_add(1);
         }
     }

@@ -342,8 +342,11 @@ fn sequence<A: Abort>(
     ensures two { IsIdle hall.now two.new }
     ensures three { IsIdle hall.now three.new }
 {
-    let outside = Stand::of(Role::Outside);
-    let mut stands = (outside, outside, outside);
+    let mut stands = (
+        Stand::of(Role::Outside),
+        Stand::of(Role::Outside),
+        Stand::of(Role::Outside),
+    );
     let mut rest = code;
     for _ in 0..STEPS {
         let act = act_of(rest / SEATS);
