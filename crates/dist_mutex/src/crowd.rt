@@ -1,6 +1,7 @@
 //! Many threads at one lock, each with a pass of its own. Afterwards one thread replays all jobs on a plain number, position
 //! by position, and each answer must be the one that it was given.
 ghost use Rattle.std.specs.Prelude.{◌≡◌, ◌+◌, ◌≤◌, length, IfOk};
+ghost use Rattle.std.specs.Thread.{IsSync};
 ghost use Rattle.dist_mutex.specs.Passes.{dist_view, IsDistPassOf, IsAtRest};
 
 use crate::mutex::DistMutex;
@@ -151,8 +152,14 @@ fn serve_four<R: Threads + Wait + Sync>(
 {
     let _done = join_mut(
         rt,
-        &mut || serve_two(rt, shop, one, two),
-        &mut || serve_two(rt, shop, three, four),
+        &mut ||
+            requires { IsSync R.row × IsDistPassOf shop.now one.now.hand × IsDistPassOf shop.now two.now.hand × IsAtRest one.now.hand × IsAtRest two.now.hand × (length one.now.notes.items ≤ (dist_view one.now.hand).quota) × (length two.now.notes.items ≤ (dist_view two.now.hand).quota) }
+            ensures { IsDistPassOf shop.entry.now one.exit.now.hand × IsDistPassOf shop.entry.now two.exit.now.hand × IsAtRest one.exit.now.hand × IsAtRest two.exit.now.hand }
+        { serve_two(rt, shop, one, two) },
+        &mut ||
+            requires { IsSync R.row × IsDistPassOf shop.now three.now.hand × IsDistPassOf shop.now four.now.hand × IsAtRest three.now.hand × IsAtRest four.now.hand × (length three.now.notes.items ≤ (dist_view three.now.hand).quota) × (length four.now.notes.items ≤ (dist_view four.now.hand).quota) }
+            ensures { IsDistPassOf shop.entry.now three.exit.now.hand × IsDistPassOf shop.entry.now four.exit.now.hand × IsAtRest three.exit.now.hand × IsAtRest four.exit.now.hand }
+        { serve_two(rt, shop, three, four) },
     );
 }
 
