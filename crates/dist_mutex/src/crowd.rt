@@ -1,10 +1,13 @@
-//! Many threads at one lock. What is compared holds whatever the schedule.
-ghost use Rattle.std.specs.Prelude.{◌≡◌, ◌+◌, ◌≤◌, ◌*◌};
+//! Many threads at one lock, each with a pass of its own. Afterwards one thread replays all jobs on a plain number, position
+//! by position, and each answer must be the one that it was given.
+ghost use Rattle.std.specs.Prelude.{◌≡◌, ◌+◌, ◌≤◌, length, IfOk};
+ghost use Rattle.std.specs.Thread.{IsSync};
 ghost use Rattle.dist_mutex.specs.Passes.{dist_view, IsDistPassOf, IsAtRest};
 
 use crate::mutex::DistMutex;
 use crate::pass::DistPass;
 use combine_job::job::{Job, Room};
+use std::alloc::AllocError;
 use std::sync::Wait;
 use std::test::Fail;
 use std::thread::{Threads, join_mut};
@@ -24,11 +27,11 @@ impl Room for Till {
     }
 }
 
-/// Gives `give`, and then takes `take`, or refuses both where the till has less.
-#[derive(Drop)]
-struct Change {
-    give: u64,
-    take: u64,
+/// Refused, with the balance, where the sum would be too great, or the till has less.
+#[derive(Clone, Copy)]
+enum Change {
+    Add(u64),
+    Subtract(u64),
 }
 
 impl Job<Till> for Change {
@@ -42,8 +45,11 @@ impl Job<Till> for Change {
 
     fn run(self, value: &mut Till) -> Result<u64, u64> {
         value.left -= 1;
-        let full = value.balance.saturating_add(self.give);
-        match full.checked_sub(self.take) {
+        let changed = match self {
+            Change::Add(amount) => value.balance.checked_add(amount),
+            Change::Subtract(amount) => value.balance.checked_sub(amount),
+        };
+        match changed {
             Some(balance) => {
                 value.balance = balance;
                 Ok(balance)
@@ -57,120 +63,246 @@ type Shop = DistMutex<Till, Change>;
 
 type Hand = DistPass<Till, Change>;
 
-/// What one thread saw of its own jobs.
+/// A job with its answer, or none yet.
+#[derive(Clone, Copy)]
+struct Note {
+    change: Change,
+    at: u64,
+    result: Result<u64, u64>,
+    asked: bool,
+}
+
+fn no_note() -> Note {
+    Note {
+        change: Change::Add(0),
+        at: 0,
+        result: Ok(0),
+        asked: false,
+    }
+}
+
+/// A pass, and a note for each job that it is to ask for.
 #[derive(Drop)]
-struct Seen {
-    given: u64,
-    taken: u64,
-    refused: u64,
-    // Each position was above the one before.
-    rises: bool,
-    // No position was as great as the number of all jobs.
-    within: bool,
+struct Clerk {
+    hand: Hand,
+    notes: Vec<Note>,
 }
 
-impl Seen {
-    fn and(self, other: Seen) -> Seen {
-        Seen {
-            given: self.given.saturating_add(other.given),
-            taken: self.taken.saturating_add(other.taken),
-            refused: self.refused.saturating_add(other.refused),
-            rises: self.rises && other.rises,
-            within: self.within && other.within,
-        }
-    }
-
-    fn note(&mut self, give: u64, take: u64, is_ok: bool) {
-        if is_ok {
-            self.given = self.given.saturating_add(give);
-            self.taken = self.taken.saturating_add(take);
-        } else {
-            self.refused = self.refused.saturating_add(1);
-        }
+// Of three jobs one adds 9 and two take 5 each, so sooner or later some are refused.
+fn change_of(round: u64) -> Change {
+    match round % 3 {
+        0 => Change::Add(9),
+        _ => Change::Subtract(5),
     }
 }
 
-// Changes money so many times, of which every third time gives more than it takes.
-fn serve<R: Wait>(rt: &R, shop: &Shop, pass: &mut Hand, rounds: u64, all: u64) -> Seen
-    requires own { IsDistPassOf shop.now pass.old }
-    requires idle { IsAtRest pass.old }
-    requires quota { rounds ≤ (dist_view pass.old).quota }
-    ensures own { IsDistPassOf shop.now pass.new }
-    ensures idle { IsAtRest pass.new }
+// Asks for as many jobs as it has notes.
+fn serve<R: Wait>(rt: &R, shop: &Shop, clerk: &mut Clerk)
+    requires own { IsDistPassOf shop.now clerk.old.hand }
+    requires idle { IsAtRest clerk.old.hand }
+    requires quota { length clerk.old.notes.items ≤ (dist_view clerk.old.hand).quota }
+    ensures own { IsDistPassOf shop.now clerk.new.hand }
+    ensures idle { IsAtRest clerk.new.hand }
 {
-    let mut seen = Seen {
-        given: 0,
-        taken: 0,
-        refused: 0,
-        rises: true,
-        within: true,
-    };
-    let mut next = 0;
+    let rounds = clerk.notes.len() as u64;
     let mut round = 0;
     while round < rounds {
-        let (give, take) = if round % 3 == 0 { (9, 1) } else { (0, 5) };
-        let answer = shop.lock_combine(rt, pass, Change { give, take });
-        seen.note(give, take, answer.result.is_ok());
-        seen.rises = seen.rises && next <= answer.at;
-        seen.within = seen.within && answer.at < all;
-        next = answer.at.saturating_add(1);
+        let change = change_of(round);
+        let answer = shop.lock_combine(rt, &mut clerk.hand, change);
+        if let Some(note) = clerk.notes.get_mut(round as usize) {
+            *note = Note {
+                change,
+                at: answer.at,
+                result: answer.result,
+                asked: true,
+            };
+        }
         round += 1;
     }
-    seen
 }
 
-// Two threads side by side.
-fn serve_both<R: Threads + Wait + Sync>(
+fn serve_two<R: Threads + Wait + Sync>(rt: &R, shop: &Shop, one: &mut Clerk, two: &mut Clerk)
+    requires own { IsDistPassOf shop.now one.old.hand × IsDistPassOf shop.now two.old.hand }
+    requires idle { IsAtRest one.old.hand × IsAtRest two.old.hand }
+    requires quota { (length one.old.notes.items ≤ (dist_view one.old.hand).quota) × (length two.old.notes.items ≤ (dist_view two.old.hand).quota) }
+    ensures own { IsDistPassOf shop.now one.new.hand × IsDistPassOf shop.now two.new.hand }
+    ensures idle { IsAtRest one.new.hand × IsAtRest two.new.hand }
+{
+    let _done = join_mut(
+        rt,
+        &mut || serve(rt, shop, one),
+        &mut || serve(rt, shop, two),
+    );
+}
+
+fn serve_four<R: Threads + Wait + Sync>(
     rt: &R,
     shop: &Shop,
-    first: &mut Hand,
-    second: &mut Hand,
-    rounds: u64,
-    all: u64,
-) -> Seen
-    requires own { IsDistPassOf shop.now first.old × IsDistPassOf shop.now second.old }
-    requires idle { IsAtRest first.old × IsAtRest second.old }
-    requires quota { (rounds ≤ (dist_view first.old).quota) × (rounds ≤ (dist_view second.old).quota) }
-    ensures own { IsDistPassOf shop.now first.new × IsDistPassOf shop.now second.new }
-    ensures idle { IsAtRest first.new × IsAtRest second.new }
+    one: &mut Clerk,
+    two: &mut Clerk,
+    three: &mut Clerk,
+    four: &mut Clerk,
+)
+    requires own { IsDistPassOf shop.now one.old.hand × IsDistPassOf shop.now two.old.hand × IsDistPassOf shop.now three.old.hand × IsDistPassOf shop.now four.old.hand }
+    requires idle { IsAtRest one.old.hand × IsAtRest two.old.hand × IsAtRest three.old.hand × IsAtRest four.old.hand }
+    requires quota { (length one.old.notes.items ≤ (dist_view one.old.hand).quota) × (length two.old.notes.items ≤ (dist_view two.old.hand).quota) }
+    requires quota_too { (length three.old.notes.items ≤ (dist_view three.old.hand).quota) × (length four.old.notes.items ≤ (dist_view four.old.hand).quota) }
+    ensures own { IsDistPassOf shop.now one.new.hand × IsDistPassOf shop.now two.new.hand × IsDistPassOf shop.now three.new.hand × IsDistPassOf shop.now four.new.hand }
+    ensures idle { IsAtRest one.new.hand × IsAtRest two.new.hand × IsAtRest three.new.hand × IsAtRest four.new.hand }
 {
-    let (one, two) = join_mut(
+    let _done = join_mut(
         rt,
-        &mut || serve(rt, shop, first, rounds, all),
-        &mut || serve(rt, shop, second, rounds, all),
+        &mut ||
+            requires { IsSync R.row × IsDistPassOf shop.now one.now.hand × IsDistPassOf shop.now two.now.hand × IsAtRest one.now.hand × IsAtRest two.now.hand × (length one.now.notes.items ≤ (dist_view one.now.hand).quota) × (length two.now.notes.items ≤ (dist_view two.now.hand).quota) }
+            ensures { IsDistPassOf shop.entry.now one.exit.now.hand × IsDistPassOf shop.entry.now two.exit.now.hand × IsAtRest one.exit.now.hand × IsAtRest two.exit.now.hand }
+        { serve_two(rt, shop, one, two) },
+        &mut ||
+            requires { IsSync R.row × IsDistPassOf shop.now three.now.hand × IsDistPassOf shop.now four.now.hand × IsAtRest three.now.hand × IsAtRest four.now.hand × (length three.now.notes.items ≤ (dist_view three.now.hand).quota) × (length four.now.notes.items ≤ (dist_view four.now.hand).quota) }
+            ensures { IsDistPassOf shop.entry.now three.exit.now.hand × IsDistPassOf shop.entry.now four.exit.now.hand × IsAtRest three.exit.now.hand × IsAtRest four.exit.now.hand }
+        { serve_two(rt, shop, three, four) },
     );
-    one.and(two)
+}
+
+fn notes<R: AllocGlobal>(rt: &R, count: u64) -> Result<Vec<Note>, AllocError>
+    ensures { IfOk result (λ v. length v.items ≡ count) }
+{
+    vec![in rt.alloc(); no_note(); count as usize]
+}
+
+// A clerk gets a pass of its own.
+fn hire(shop: &Shop, hand: &mut Hand, notes: Vec<Note>) -> Clerk
+    requires own { IsDistPassOf shop.now hand.old }
+    requires idle { IsAtRest hand.old }
+    requires fits { (1 ≤ (dist_view hand.old).spare) × (length notes.items ≤ (dist_view hand.old).quota) }
+    ensures own { IsDistPassOf shop.now hand.new × IsDistPassOf shop.now result.hand }
+    ensures idle { IsAtRest hand.new × IsAtRest result.hand }
+    ensures left { ((dist_view hand.new).spare + 1 ≡ (dist_view hand.old).spare) × ((dist_view hand.new).quota + length notes.items ≡ (dist_view hand.old).quota) }
+    ensures quota { length result.notes.items ≤ (dist_view result.hand).quota }
+{
+    let hand = shop.split(hand, 1, notes.len() as u64);
+    Clerk { hand, notes }
+}
+
+// Each note goes to the position of its answer. Whether these positions rise.
+fn gather(table: &mut Vec<Note>, notes: &[Note]) -> bool {
+    let mut next = 0;
+    let mut rises = true;
+    for note in notes {
+        rises = rises && next <= note.at;
+        next = note.at.saturating_add(1);
+        if let Some(place) = table.get_mut(note.at as usize) {
+            *place = *note;
+        }
+    }
+    rises
+}
+
+// A clerk's notes go to their positions, and its pass goes back.
+fn dismiss(shop: &Shop, hand: &mut Hand, clerk: Clerk, table: &mut Vec<Note>) -> bool
+    requires own { IsDistPassOf shop.now hand.old × IsDistPassOf shop.now clerk.hand }
+    requires idle { IsAtRest hand.old × IsAtRest clerk.hand }
+    ensures own { IsDistPassOf shop.now hand.new }
+    ensures idle { IsAtRest hand.new }
+{
+    let rises = gather(table, clerk.notes.as_slice());
+    shop.join(hand, clerk.hand);
+    rises
+}
+
+// The balance at the end, where each position has a job whose answer is the one that a plain number gives.
+fn replay(table: &[Note], first: u64) -> Option<u64> {
+    let mut balance = first;
+    for note in table {
+        let expected = match note.change {
+            Change::Add(amount) => Ok(balance.saturating_add(amount)),
+            Change::Subtract(amount) => {
+                if balance < amount {
+                    Err(balance)
+                } else {
+                    Ok(balance - amount)
+                }
+            }
+        };
+        if !note.asked || note.result != expected {
+            return None;
+        }
+        balance = expected.unwrap_or(balance);
+    }
+    Some(balance)
+}
+
+fn a_till(jobs: u64) -> Till
+    ensures { result.left ≡ jobs }
+{
+    Till {
+        balance: 100,
+        left: jobs,
+    }
 }
 
 #[test]
 fn four_threads_change_money(rt: HostRuntime) -> Result<(), Fail> {
-    let till = Till {
-        balance: 100,
-        left: 2000,
-    };
-    let (shop, mut zero) = Shop::make(rt.alloc(), 4, 2000, 8, till)?;
-    let mut three = shop.split(&mut zero, 1, 500);
-    let mut two = shop.split(&mut zero, 1, 500);
-    let mut one = shop.split(&mut zero, 1, 500);
-    let (front, back) = join_mut(
-        &rt,
-        &mut || serve_both(&rt, &shop, &mut zero, &mut one, 500, 2000),
-        &mut || serve_both(&rt, &shop, &mut two, &mut three, 500, 2000),
-    );
-    shop.join(&mut zero, one);
-    shop.join(&mut zero, two);
-    shop.join(&mut zero, three);
-    let seen = front.and(back);
-    let (kept, retired) = shop.close(zero);
-    assert!(rt; retired.combine() == 8 && seen.rises && seen.within);
+    let mut table = notes(&rt, 1200)?;
+    let (own, first, second) = (notes(&rt, 300)?, notes(&rt, 300)?, notes(&rt, 300)?);
+    let third = notes(&rt, 300)?;
+    let (shop, mut hand) = Shop::make(rt.alloc(), 4, 1200, 8, a_till(1200))?;
+    let mut one = hire(&shop, &mut hand, first);
+    let mut two = hire(&shop, &mut hand, second);
+    let mut three = hire(&shop, &mut hand, third);
+    let mut zero = Clerk { hand, notes: own };
+    serve_four(&rt, &shop, &mut zero, &mut one, &mut two, &mut three);
+    let Clerk { mut hand, notes } = zero;
+    assert!(rt; gather(&mut table, notes.as_slice()));
+    assert!(rt; dismiss(&shop, &mut hand, one, &mut table));
+    assert!(rt; dismiss(&shop, &mut hand, two, &mut table));
+    assert!(rt; dismiss(&shop, &mut hand, three, &mut table));
+    let (kept, retired) = shop.close(hand);
+    assert!(rt; retired.combine() == 8);
     match kept {
         None => panic!(rt; "the value is lost"),
         Some(kept) => {
-            assert!(rt; kept.ran == 2000 && kept.value.left == 0);
-            assert!(rt;
-                kept.value.balance.saturating_add(seen.taken) == seen.given.saturating_add(100)
-            );
-            assert!(rt; seen.refused > 0);
+            assert!(rt; kept.ran == 1200 && kept.value.left == 0);
+            assert!(rt; replay(table.as_slice(), 100) == Some(kept.value.balance));
+        }
+    }
+    Ok(())
+}
+
+#[test]
+fn eight_threads_change_money(rt: HostRuntime) -> Result<(), Fail> {
+    let mut table = notes(&rt, 800)?;
+    let (own, first, second) = (notes(&rt, 100)?, notes(&rt, 100)?, notes(&rt, 100)?);
+    let (third, fourth, fifth) = (notes(&rt, 100)?, notes(&rt, 100)?, notes(&rt, 100)?);
+    let (sixth, seventh) = (notes(&rt, 100)?, notes(&rt, 100)?);
+    let (shop, mut hand) = Shop::make(rt.alloc(), 8, 800, 2, a_till(800))?;
+    let mut one = hire(&shop, &mut hand, first);
+    let mut two = hire(&shop, &mut hand, second);
+    let mut three = hire(&shop, &mut hand, third);
+    let mut four = hire(&shop, &mut hand, fourth);
+    let mut five = hire(&shop, &mut hand, fifth);
+    let mut six = hire(&shop, &mut hand, sixth);
+    let mut seven = hire(&shop, &mut hand, seventh);
+    let mut zero = Clerk { hand, notes: own };
+    let _done = join_mut(
+        &rt,
+        &mut || serve_four(&rt, &shop, &mut zero, &mut one, &mut two, &mut three),
+        &mut || serve_four(&rt, &shop, &mut four, &mut five, &mut six, &mut seven),
+    );
+    let Clerk { mut hand, notes } = zero;
+    assert!(rt; gather(&mut table, notes.as_slice()));
+    assert!(rt; dismiss(&shop, &mut hand, one, &mut table));
+    assert!(rt; dismiss(&shop, &mut hand, two, &mut table));
+    assert!(rt; dismiss(&shop, &mut hand, three, &mut table));
+    assert!(rt; dismiss(&shop, &mut hand, four, &mut table));
+    assert!(rt; dismiss(&shop, &mut hand, five, &mut table));
+    assert!(rt; dismiss(&shop, &mut hand, six, &mut table));
+    assert!(rt; dismiss(&shop, &mut hand, seven, &mut table));
+    let (kept, _retired) = shop.close(hand);
+    match kept {
+        None => panic!(rt; "the value is lost"),
+        Some(kept) => {
+            assert!(rt; kept.ran == 800 && kept.value.left == 0);
+            assert!(rt; replay(table.as_slice(), 100) == Some(kept.value.balance));
         }
     }
     Ok(())

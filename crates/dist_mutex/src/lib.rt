@@ -17,6 +17,8 @@ pub mod combine;
 mod crowd;
 pub mod lock;
 pub mod mutex;
+#[cfg(test)]
+mod orders;
 pub mod owner;
 pub mod pass;
 pub mod release;

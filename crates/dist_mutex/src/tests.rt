@@ -8,7 +8,7 @@ ghost use Rattle.dist_mutex.specs.Owners.{IsFree};
 ghost use Rattle.dist_mutex.specs.Passes.{opening_of, slots_of, dist_state, dist_view, runs_of, IsDistPassOf, IsSamePass, IsAtRest};
 
 use crate::mutex::DistMutex;
-use crate::owner::{Next, Released};
+use crate::owner::Next;
 use crate::pass::DistPass;
 use combine_job::combining::post;
 use combine_job::job::{Job, Room};
@@ -21,9 +21,9 @@ use waiter_chain::turn::{Arrived, Entered, Kind, Polled};
 
 /// A sum of money, and how many jobs it can still take.
 #[derive(Drop)]
-struct Account {
-    balance: u64,
-    left: u64,
+pub(crate) struct Account {
+    pub(crate) balance: u64,
+    pub(crate) left: u64,
 }
 
 impl Room for Account {
@@ -35,8 +35,8 @@ impl Room for Account {
 }
 
 /// Why an account refuses.
-#[derive(Drop, PartialEq)]
-enum Refusal {
+#[derive(Clone, Copy, PartialEq)]
+pub(crate) enum Refusal {
     /// It has less: this much.
     Short(u64),
     /// It would have too much.
@@ -70,7 +70,7 @@ fn withdraw(account: &mut Account, amount: u64) -> Result<u64, Refusal>
 }
 
 #[derive(Drop)]
-enum Order {
+pub(crate) enum Order {
     Give(u64),
     Take(u64),
 }
@@ -109,7 +109,7 @@ fn poll_plain<V: Room, J: Job<V>>(bank: &DistMutex<V, J>, clerk: &mut DistPass<V
 }
 
 // A clerk posts this order behind another clerk, and waits.
-fn wait_with<A: Abort, V: Room, J: Job<V>>(
+pub(crate) fn wait_with<A: Abort, V: Room, J: Job<V>>(
     rt: &A,
     bank: &DistMutex<V, J>,
     clerk: &mut DistPass<V, J>,
@@ -168,7 +168,7 @@ fn link_late<V: Room, J: Job<V>>(bank: &DistMutex<V, J>, clerk: &mut DistPass<V,
 }
 
 // The clerk finds that its order has run, or runs it as the owner.
-fn settle<R: Wait, V: Room, J: Job<V>>(
+pub(crate) fn settle<R: Wait, V: Room, J: Job<V>>(
     rt: &R,
     bank: &DistMutex<V, J>,
     clerk: &mut DistPass<V, J>,
@@ -182,7 +182,7 @@ fn settle<R: Wait, V: Room, J: Job<V>>(
     bank.await_answer(rt, clerk)
 }
 
-fn an_account(jobs: u64) -> Account
+pub(crate) fn an_account(jobs: u64) -> Account
     ensures { (result.left ≡ jobs) × (result.balance ≡ 0) }
 {
     Account {
@@ -291,61 +291,10 @@ fn waiters_get_the_lock_in_turn(rt: HostRuntime) -> Result<(), Fail> {
     Ok(())
 }
 
-// Three clerks post an order each, and the owner gives the lock up: how that went. Whoever runs the orders, the newest is the
-// first.
-fn three_orders<R: Abort + AllocGlobal + Wait>(rt: &R, combine: u32) -> Result<Released, Fail> {
-    let (bank, mut zero) = Bank::make(rt.alloc(), 4, 3, combine, an_account(3))?;
-    let mut three = bank.split(&mut zero, 1, 1);
-    let mut two = bank.split(&mut zero, 1, 1);
-    let mut one = bank.split(&mut zero, 1, 1);
-    let owner = match bank.try_lock(&mut zero) {
-        Ok(owner) => owner,
-        Err(_busy) => panic!(rt; "the lock was taken"),
-    };
-    wait_with(rt, &bank, &mut one, Order::Take(4));
-    wait_with(rt, &bank, &mut two, Order::Take(100));
-    wait_with(rt, &bank, &mut three, Order::Give(10));
-    let released = bank.unlock(&mut zero, owner);
-    let last = settle(rt, &bank, &mut three);
-    assert!(rt; last.at == 0 && last.result == Ok(10));
-    let second = settle(rt, &bank, &mut two);
-    assert!(rt; second.at == 1 && second.result == Err(Refusal::Short(10)));
-    let first = settle(rt, &bank, &mut one);
-    assert!(rt; first.at == 2 && first.result == Ok(6));
-    bank.join(&mut zero, one);
-    bank.join(&mut zero, two);
-    bank.join(&mut zero, three);
-    let (kept, _retired) = bank.close(zero);
-    match kept {
-        Some(kept) => assert!(rt; kept.ran == 3 && kept.value.balance == 6),
-        None => panic!(rt; "the value is lost"),
-    }
-    Ok(released)
-}
-
-#[test]
-fn an_owner_runs_the_orders_of_others_up_to_a_limit(rt: HostRuntime) -> Result<(), Fail> {
-    let all = three_orders(&rt, 64)?;
-    match all.next {
-        Next::Free => assert!(rt; all.combined == 3),
-        _ => panic!(rt; "a node was made the owner"),
-    }
-    let one = three_orders(&rt, 1)?;
-    match one.next {
-        Next::Spent(node) => assert!(rt; one.combined == 1 && node == 2),
-        _ => panic!(rt; "not at the limit"),
-    }
-    let none = three_orders(&rt, 0)?;
-    match none.next {
-        Next::Spent(node) => assert!(rt; none.combined == 0 && node == 3),
-        _ => panic!(rt; "not at the limit"),
-    }
-    Ok(())
-}
-
 #[test]
 fn a_clerk_that_links_late_runs_its_own_order(rt: HostRuntime) -> Result<(), Fail> {
-    let (bank, mut zero) = Bank::make(rt.alloc(), 2, 1, 64, an_account(1))?;
+    let (bank, mut zero) = Bank::make(rt.alloc(), 4, 1, 64, an_account(1))?;
+    let others = bank.split(&mut zero, 2, 0);
     let mut one = bank.split(&mut zero, 1, 1);
     let owner = match bank.try_lock(&mut zero) {
         Ok(owner) => owner,
@@ -361,6 +310,7 @@ fn a_clerk_that_links_late_runs_its_own_order(rt: HostRuntime) -> Result<(), Fai
     let answer = settle(&rt, &bank, &mut one);
     assert!(rt; answer.at == 0 && answer.result == Ok(10));
     bank.join(&mut zero, one);
+    bank.join(&mut zero, others);
     let (kept, _retired) = bank.close(zero);
     match kept {
         Some(kept) => assert!(rt; kept.ran == 1 && kept.value.balance == 10),
