@@ -1,6 +1,6 @@
 -- How many wants were tried for, so that the steps of their tries have a bound.
 use Rattle.std.specs.Prelude.{◌≡◌, ℕ, zero, suc, ◌+◌, ◌*◌, ◌<◌, ◌≤◌, Bool, true, false, ltb, List, [], ◌∷◌, length}
-use Rattle.std.proofs.Common.{ap, refl, ⊎_elim, arith}
+use Rattle.std.proofs.Common.{ap, ⊎_elim, arith}
 use Rattle.std.proofs.lemmas.Bool.{cases_lt, lt-ltb, le-ltb}
 use Rattle.std.proofs.Math.Nat.{mul-le-mul_left, mul-suc}
 use Rattle.acquire_many.specs.Wants.{Want, lock_at}

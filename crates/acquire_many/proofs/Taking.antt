@@ -1,5 +1,5 @@
 -- One want more, and one hold given back.
-use Rattle.std.specs.Prelude.{◌≡◌, ◌≢◌, ◌⊎◌, ℕ, zero, suc, ◌+◌, ◌<◌, ◌≤◌, List, [], ◌∷◌, length, slice_index_or, slice_set, Option, Some, None, IfSome, MatchOption}
+use Rattle.std.specs.Prelude.{◌≡◌, ◌≢◌, ◌⊎◌, ℕ, suc, ◌+◌, ◌<◌, ◌≤◌, List, [], ◌∷◌, length, slice_index_or, slice_set, Option, Some, None, IfSome, MatchOption}
 use Rattle.std.proofs.Common.{refl, sym, ap, ◌∙◌, subst, inl, inr, ⊎_elim, arith, get_or-set_same, get_or-set_other}
 use Rattle.std.proofs.lemmas.Bool.{cases_lt, cases_eq}
 use mathlib.Core.Logic.{dite}
@@ -26,7 +26,7 @@ use Rattle.acquire_many.specs.Guards.{Fit}
 use Rattle.acquire_many.specs.MetLaws.{no_some, returns_leave, returns_treads, some_same}
 use Rattle.acquire_many.specs.Met.{AtFirst, IfThere, Learns, HeldBelow, HoldFits, InTurn, IsFor, IsForAny, IsHeld, Returns, ReturnsHeld, stands_for}
 use Rattle.acquire_many.specs.Took.{GaveFirst, IsForHeld, TookAll, TookBelow}
-use Rattle.acquire_many.specs.Wants.{AllBelow, AreApart, Hold, InOrderBelow, IsLeast, Want, lock_at, mode_in, want_at, want_of}
+use Rattle.acquire_many.specs.Wants.{AllBelow, AreApart, Hold, IsLeast, Want, lock_at, mode_in, want_at, want_of}
 
 mode_by : (form : Form) → mode_of (stands_by form) ≡ Some modes.Shared
 mode_by (forms.Deferred slot) = refl

@@ -62,12 +62,12 @@ module _ {C P : Type 0} (g : Ghosts C P) (wants : List Want) where
     pub near : index < length wants
     pub order : List ℕ
     pub sorted : InOrderBelow wants (lock_at wants index) order
+    pub holds : List (Option Hold)
+    pub held : HeldBelow wants (lock_at wants index) holds
     pub before : View P
     pub taken : InTurn (Takes g) holds v order before
     pub after : View P
     pub refused : Refuses g before (want_at wants index) after fault
-    pub holds : List (Option Hold)
-    pub held : HeldBelow wants (lock_at wants index) holds
     pub returned : AtFirst (ReturnsHeld g) holds after MANY w
     pub away : (k : ℕ) → k < length wants → standing w (lock_at wants k) ≡ stand.Away
     pub elsewhere : (lock : ℕ) → ((k : ℕ) → k < length wants → lock_at wants k ≢ lock) → standing w lock ≡ standing v lock

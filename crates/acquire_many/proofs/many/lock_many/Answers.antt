@@ -1,4 +1,4 @@
-use Rattle.std.proofs.Common.{◌≡◌, List, Option, arith, rules, subst, sym, ◌∙◌, length-set}
+use Rattle.std.proofs.Common.{List, Option, arith, rules, subst, sym, ◌∙◌, length-set}
 use Rattle.hall.specs.Passes.{view, shape_of}
 use Rattle.acquire_many.specs.Guards.{Fit}
 use Rattle.acquire_many.specs.Met.{MeetsPatiently}

@@ -1,4 +1,4 @@
-use Rattle.std.proofs.Common.{length, ◌+◌, ◌*◌, ◌≡◌, List, Option, arith, rules, subst, sym, ◌∙◌, length-set}
+use Rattle.std.proofs.Common.{length, ◌+◌, ◌*◌, List, Option, arith, rules, subst, sym, ◌∙◌, length-set}
 use Rattle.hall.specs.Passes.{view, shape_of}
 use Rattle.acquire_many.specs.Guards.{Fit}
 use Rattle.acquire_many.specs.Met.{Takes}
@@ -61,3 +61,6 @@ returns-in-Err-clause-steps g c =
     let more = below_next wants c.loop-position.from to k least.0 least.1 (omega arith) in
     let tried = steps_next each (below wants c.loop-position.from) (length wants) (length v.steps) (length u.steps) (length z.steps) (omega (arith, more, below_few wants to)) c.loop-position.invariant.steps c.in-Err.ensures.steps in
     omega (arith, tried, c.give_all_back.ensures.steps)
+
+pub returns-in-Err-clause-clear : goal.returns-in-Err-clause-clear
+returns-in-Err-clause-clear g c = c.give_all_back.ensures.clear c.try_to_take.ensures.clear

@@ -1,7 +1,7 @@
 use Rattle.std.proofs.Common.{◌≡◌, List}
 use Rattle.hall.specs.declared.guards.TryFault.{TryFault}
-use Rattle.hall.specs.declared.view.Standing.TheVariants.{Away, Announcing}
-use Rattle.hall.specs.Passes.{view, IsPassOf, shape_of}
+use Rattle.hall.specs.declared.view.Standing.TheVariants.{Away}
+use Rattle.hall.specs.Passes.{view, IsPassOf}
 use Rattle.hall.specs.Slotting.{HasNonePending}
 use Rattle.hall.specs.Views.{standing}
 use Rattle.shared_mutex.specs.Acquiring.{ElsewhereSame}

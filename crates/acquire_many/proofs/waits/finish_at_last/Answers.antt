@@ -1,4 +1,4 @@
-use Rattle.std.proofs.Common.{rules, ◌∷◌, ◌∙◌}
+use Rattle.std.proofs.Common.{rules, ◌∷◌}
 use Rattle.hall.specs.declared.guards.TryFault.TheVariants.{Busy}
 use Rattle.hall.specs.Passes.{view}
 use Rattle.shared_mutex.specs.TryLaws.{meetings_looked}

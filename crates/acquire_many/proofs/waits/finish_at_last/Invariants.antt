@@ -1,6 +1,6 @@
 use Rattle.std.proofs.Common.{◌≡◌, List, false}
 use Rattle.hall.specs.declared.guards.TryFault.{TryFault}
-use Rattle.hall.specs.declared.view.Standing.TheVariants.{Away, Announcing}
+use Rattle.hall.specs.declared.view.Standing.TheVariants.{Announcing}
 use Rattle.hall.specs.Passes.{view, IsPassOf, shape_of}
 use Rattle.hall.specs.Views.{standing}
 use Rattle.shared_mutex.specs.Acquiring.{ElsewhereSame}

@@ -1,4 +1,4 @@
-use Rattle.std.proofs.Common.{◌≡◌, ◌<◌, ◌≤◌, MatchOption}
+use Rattle.std.proofs.Common.{◌<◌, ◌≤◌, MatchOption}
 use Rattle.acquire_many.specs.Wants.{lock_at}
 use Rattle.acquire_many.proofs.wants.next_want.Given as goal
 
