@@ -63,4 +63,4 @@ returns-in-Ok-clause-tries g c =
     let so_far = c.loop.invariant in let s = c.in-Ok.ensures.step in let a = s.1.0 in let z = s.1.2 in let v = view c.args.pass.now in let u = view c.loop.pass in let w = view c.try_wlock.new.pass in
     gained_last (λ e. refuses_writer e ≡ false) v z w c.args.cell (entry_of z kinds.Hold c.args.cell 4 true)
     (tries_then (λ e. refuses_writer e ≡ false) v u w c.args.cell so_far.quiet.goes_on.number so_far.tries (writer_took _ u w c.args.cell so_far.away s.1))
-    (unchanged_then v a z (unchanged_then v u a so_far.quiet (announced _ u a c.args.cell s.1.1)) (swept _ c.args.cell u.shape.slots s.1.3 a z s.1.4)).goes_on.more (ap (λ (x : View _). x.steps) s.1.5.0.3) refl refl
+    (unchanged_then v a z (unchanged_then v u a so_far.quiet (announced _ u a c.args.cell s.1.1)) (swept _ c.args.cell u.shape.slots s.1.3 a z s.1.4)).goes_on.more (ap (λ (x : View _). x.steps) s.1.5.0.3) refl

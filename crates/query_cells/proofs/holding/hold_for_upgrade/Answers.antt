@@ -24,4 +24,4 @@ pub returns-clause-tries : goal.returns-clause-tries
 returns-clause-tries g c =
     let s = c.ulock.ensures.step.1 in let v = view c.args.pass.now in let w = view c.ulock.new.pass in let seen = s.3.0 in let u = after_look s.0 kinds.Load c.args.cell seen in
     gained_last AnyStep v u w c.args.cell (entry_of u kinds.UpgradeIn c.args.cell seen true) (any_tries v w c.args.cell (adds_as (IsPatientTry v c.args.cell) (IsTry v c.args.cell) v w (λ e p. p.0) c.ulock.ensures.steps))
-    (unchanged_then v s.0 u (unchanged_look v s.0 c.args.cell s.2) (unchanged_once s.0 kinds.Load c.args.cell seen)).goes_on.more (ap (λ (x : View _). x.steps) s.3.2.0.3) refl refl
+    (unchanged_then v s.0 u (unchanged_look v s.0 c.args.cell s.2) (unchanged_once s.0 kinds.Load c.args.cell seen)).goes_on.more (ap (λ (x : View _). x.steps) s.3.2.0.3) refl

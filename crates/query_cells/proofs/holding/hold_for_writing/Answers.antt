@@ -25,4 +25,4 @@ pub returns-clause-tries : goal.returns-clause-tries
 returns-clause-tries g c =
     let step = c.wlock.ensures.step in let s = step.2 in let last = s.2 in let v = view c.args.pass.now in let w = view c.wlock.new.pass in
     gained_last AnyStep v last.0 w c.args.cell (entry_of last.0 kinds.Hold c.args.cell 4 true) (any_tries v w c.args.cell (adds_as (IsPatientTry v c.args.cell) (IsTry v c.args.cell) v w (λ e p. p.0) c.wlock.ensures.steps))
-    (unchanged_then v s.0 last.0 (announced_at_last _ v c.args.cell step.0 s.0 s.1) (unchanged_look s.0 last.0 c.args.cell last.2)).goes_on.more (ap (λ (x : View _). x.steps) last.3.0.3) refl refl
+    (unchanged_then v s.0 last.0 (announced_at_last _ v c.args.cell step.0 s.0 s.1) (unchanged_look s.0 last.0 c.args.cell last.2)).goes_on.more (ap (λ (x : View _). x.steps) last.3.0.3) refl
