@@ -1,6 +1,6 @@
 -- A query of two cells: they are taken, it is asked, and they are given back.
-use Rattle.std.specs.Prelude.{◌≡◌, ◌≢◌, ◌⊎◌, ℕ, ◌<◌, ◌==◌, Bool, true, false, cond, List, [], ◌∷◌, Option, slice_index_or, Some, None}
-use Rattle.std.proofs.Common.{refl, sym, ap, ◌∙◌, subst, ne_eqb}
+use Rattle.std.specs.Prelude.{◌≡◌, ◌≢◌, ℕ, ◌==◌, Bool, true, false, cond, List, [], ◌∷◌}
+use Rattle.std.proofs.Common.{sym, subst, ne_eqb}
 use Rattle.lock_model.specs.Locks.{Has}
 use Rattle.lock_model.specs.declared.model.Mode.{Mode}
 use Rattle.lock_model.specs.declared.model.Mode.TheVariants as modes
@@ -22,7 +22,7 @@ use Rattle.map_cargo.specs.Steps.{Left, MoreSteps}
 use Rattle.sync_cell.specs.Cells.{maps}
 use Rattle.query_cells.specs.Asked.{MayTread, TakesInOrder}
 use Rattle.query_cells.specs.Answers.{ChangesWords, LeadsBack, Tells}
-use Rattle.query_cells.specs.Two.{GainsInOrder, GuardsBoth, IsAtCells, TakesBoth, both_wanted}
+use Rattle.query_cells.specs.Two.{GuardsBoth, IsAtCells, TakesBoth, both_wanted}
 use Rattle.query_cells.proofs.Pairs.{words_tell_nothing}
 use Rattle.query_cells.proofs.Replies.{nothing_then, tells_after, tells_then}
 use Rattle.query_cells.proofs.TakingTwo.{for_cells}

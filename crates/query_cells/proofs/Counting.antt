@@ -1,7 +1,6 @@
 -- A put that counts the keys.
-use Rattle.std.specs.Prelude.{◌≡◌, ℕ, ◌+◌, ◌<◌, ◌≤◌, Bool, true, false, cond, Some, None, Option, is_some, nat_le}
-use Rattle.std.proofs.Common.{refl, sym, ap, ◌∙◌, subst, arith}
-use Rattle.query_rules.specs.declared.query.Said.{Said}
+use Rattle.std.specs.Prelude.{◌≡◌, ℕ, ◌+◌, ◌<◌, Bool, false, cond, Some, None, Option, is_some, nat_le}
+use Rattle.std.proofs.Common.{sym, ap, ◌∙◌, subst, arith}
 use Rattle.query_rules.specs.declared.query.Said.TheVariants.{OldCount, NewCount, Full}
 use Rattle.query_rules.specs.Maps.{PlainMap, with_value, put_len_says, is_full}
 

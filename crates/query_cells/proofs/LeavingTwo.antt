@@ -1,5 +1,5 @@
 -- Cells that were given back, one after the other: the steps lead back to the standings before them.
-use Rattle.std.specs.Prelude.{◌≡◌, ◌≢◌, ℕ, zero, suc, ◌+◌, ◌<◌, Bool, true, false, List, [], ◌∷◌, length, Option, Some, None, slice_index_or}
+use Rattle.std.specs.Prelude.{◌≡◌, ◌≢◌, ℕ, zero, suc, ◌+◌, ◌<◌, Bool, true, false, List, [], ◌∷◌, Option, Some, None, slice_index_or}
 use Rattle.std.proofs.Common.{refl, sym, ap, ◌∙◌, subst, inl, inr, ⊎_elim, arith, get_or-set_other}
 use Rattle.std.proofs.lemmas.List.Elements.{All-nil}
 use mathlib.Core.Logic.{dite}
@@ -23,11 +23,11 @@ use Rattle.shared_mutex.specs.Acquiring.{ElsewhereSame, LeavesShared}
 use Rattle.acquire_many.specs.declared.guards.How.TheVariants as hows
 use Rattle.acquire_many.specs.declared.guards.Guards.{Guards}
 use Rattle.acquire_many.specs.declared.guards.TheConstants.{MANY}
-use Rattle.acquire_many.specs.Guards.{Fit, said_by}
-use Rattle.acquire_many.specs.Met.{AtFirst, HeldAll, HoldFits, IfThere, IsFormIn, Returns, ReturnsHeld}
+use Rattle.acquire_many.specs.Guards.{said_by}
+use Rattle.acquire_many.specs.Met.{AtFirst, HoldFits, IfThere, IsFormIn, Returns, ReturnsHeld}
 use Rattle.acquire_many.specs.MetLaws.{of_held}
 use Rattle.acquire_many.specs.Took.{GaveFirst}
-use Rattle.acquire_many.specs.Wants.{Hold, Want, lock_at, want_at}
+use Rattle.acquire_many.specs.Wants.{Hold, Want, lock_at}
 use Rattle.map_cargo.specs.declared.entry.Part.{Part}
 use Rattle.map_cargo.specs.declared.size.MapCargo.{MapCargo}
 use Rattle.map_cargo.specs.History.{IsRested, IsSettled}
@@ -36,7 +36,7 @@ use Rattle.map_cargo.specs.Steps.{IsIdle, Left}
 use Rattle.sync_cell.specs.Cells.{maps}
 use Rattle.query_cells.specs.Answers.{LeadsBack}
 use Rattle.query_cells.specs.Placing.{is_of_lock, number_word}
-use Rattle.query_cells.specs.Two.{GuardsBoth, HoldsCells, both_wanted}
+use Rattle.query_cells.specs.Two.{GuardsBoth, both_wanted}
 use Rattle.query_cells.proofs.Pairs.{both_left}
 use Rattle.query_cells.proofs.TakingTwo.{each_want}
 use Rattle.query_cells.proofs.Placing.{leads_left, leads_once, leads_then}

@@ -14,7 +14,7 @@ use Rattle.query_rules.specs.declared.Query.{Query}
 use Rattle.query_rules.specs.declared.Query.TheVariants as query
 use Rattle.query_rules.specs.declared.query.Said.{Said}
 use Rattle.query_rules.specs.declared.query.Said.TheVariants.{Same, Pair}
-use Rattle.query_rules.specs.Maps.{Maps, PlainMap, reply_of, is_write, after, written, move_says}
+use Rattle.query_rules.specs.Maps.{Maps, reply_of, is_write, after, written, move_says}
 use Rattle.map_cargo.specs.declared.size.MapCargo.{MapCargo}
 use Rattle.map_cargo.specs.declared.entry.Part.{Part}
 use Rattle.map_cargo.specs.Cells.{Means, lookup}

@@ -25,7 +25,7 @@ use Rattle.map_cargo.specs.declared.entry.Entry.{Entry}
 use Rattle.map_cargo.specs.declared.entry.Part.{Part}
 use Rattle.map_cargo.specs.Cells.{log_place, number_place}
 use Rattle.map_cargo.specs.Entries.{log_words}
-use Rattle.map_cargo.specs.Probes.{IsInCell, StaysInCell}
+use Rattle.map_cargo.specs.Probes.{StaysInCell}
 use Rattle.map_cargo.specs.Steps.{cargo_step, row_stores}
 
 -- one step

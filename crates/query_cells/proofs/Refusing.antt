@@ -1,5 +1,5 @@
 -- Queries that were refused.
-use Rattle.std.specs.Prelude.{◌≡◌, ◌≢◌, ℕ, ◌<◌, ◌≤◌, ◌⊎◌, Bool, true, false, List, [], ◌∷◌, MatchBool}
+use Rattle.std.specs.Prelude.{◌≡◌, ℕ, ◌<◌, Bool, true, false, List, [], ◌∷◌, MatchBool}
 use Rattle.std.proofs.Common.{refl, sym, ap, ◌∙◌, subst, ⊎_elim}
 use Rattle.lock_model.specs.Locks.{Has}
 use Rattle.hall.specs.declared.view.Kind.TheVariants.{Load}
@@ -26,7 +26,7 @@ use Rattle.query_cells.specs.Asked.{AddsReply, AsksUntil, IsForced, IsLateBy, Wa
 use Rattle.query_cells.specs.Placing.{IsPlacedUnder}
 use Rattle.sync_cell.specs.Waits.{AskedInTime, AskedTooLate}
 use Rattle.std.specs.declared.option.Option.{Option}
-use Rattle.query_cells.specs.Answers.{Tells, TellsNothing, TurnedAway}
+use Rattle.query_cells.specs.Answers.{Tells, TurnedAway}
 
 -- what a licensed reply is
 pub record Refusable (q : Query) (reply : Reply) : Type 0 where

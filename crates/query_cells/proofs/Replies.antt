@@ -1,13 +1,10 @@
 -- What a reply leaves, between the taking of a cell and its giving back.
-use Rattle.std.specs.Prelude.{◌≡◌, ◌≢◌, ℕ, ◌+◌, ◌*◌, ◌<◌, ◌≤◌, Bool, true, false, List, [], ◌∷◌, ◌++◌, length, MatchBool, Some, None, IsTrue, cond, ◌==◌, Option}
-use Rattle.std.proofs.Common.{refl, sym, ap, ◌∙◌, subst, arith}
-use mathlib.Core.Logic.{dite}
-use native.Mathlib.Decide.{ℕ_discrete}
+use Rattle.std.specs.Prelude.{◌≡◌, ◌≢◌, ℕ, ◌+◌, ◌*◌, ◌≤◌, Bool, true, false, List, [], ◌∷◌, ◌++◌, MatchBool, None, cond, ◌==◌, Option}
+use Rattle.std.proofs.Common.{refl, sym, ap, ◌∙◌, subst}
 use Rattle.lock_model.specs.Locks.{Has}
 use Rattle.lock_model.specs.declared.model.Mode.{Mode}
 use Rattle.hall.specs.declared.view.View.{View}
 use Rattle.hall.specs.declared.view.Kind.TheVariants.{LoadCargo, AddCargo}
-use Rattle.hall.specs.declared.view.Standing.{Standing}
 use Rattle.hall.specs.declared.view.Standing.TheVariants.{Away}
 use Rattle.hall.specs.Cargo.{exclusive_mode}
 use Rattle.hall.specs.Views.{standing, mode_of}
@@ -17,8 +14,8 @@ use Rattle.query_rules.specs.declared.query.Query.TheVariants as query
 use Rattle.query_rules.specs.declared.query.Said.{Said}
 use Rattle.query_rules.specs.declared.query.Reply.{Reply}
 use Rattle.query_rules.specs.declared.query.Reply.TheVariants.{Placed, Busy, Late, Job}
-use Rattle.query_rules.specs.Maps.{Maps, reply_of, is_write, after, written}
-use Rattle.query_rules.specs.History.{place_of, IsKindFor}
+use Rattle.query_rules.specs.Maps.{is_write, written}
+use Rattle.query_rules.specs.History.{place_of}
 use Rattle.query_rules.proofs.ReplyKinds.{said_kind}
 use Rattle.map_cargo.specs.declared.size.MapCargo.{MapCargo}
 use Rattle.map_cargo.specs.declared.entry.Told.{Told}

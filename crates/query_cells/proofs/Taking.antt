@@ -1,7 +1,7 @@
 -- Cells that were taken by a try or until a deadline, and such that weren't.
-use Rattle.std.specs.Prelude.{◌≡◌, ◌≢◌, ℕ, ◌+◌, ◌<◌, ◌≤◌, ◌⊎◌, Bool, true, false, List, [], ◌∷◌, Some, None, slice_index_or, slice_set}
+use Rattle.std.specs.Prelude.{◌≡◌, ℕ, ◌⊎◌, Bool, true, false, List, ◌∷◌}
 use Rattle.std.specs.declared.option.Option.{Option}
-use Rattle.std.proofs.Common.{refl, sym, ap, ◌∙◌, subst, ⊎_elim, inl, inr, arith}
+use Rattle.std.proofs.Common.{refl, ap, ◌∙◌, subst, ⊎_elim, inl, inr}
 use Rattle.hall.specs.declared.cargo.CargoRule.{Ghosts}
 use Rattle.hall.specs.declared.guards.TryFault.{TryFault}
 use Rattle.hall.specs.declared.guards.TryFault.TheVariants.{Busy, Raced}
@@ -10,15 +10,14 @@ use Rattle.hall.specs.declared.view.Kind.TheVariants as kinds
 use Rattle.hall.specs.declared.view.Standing.{Standing}
 use Rattle.hall.specs.declared.view.Standing.TheVariants.{Away, Exclusive}
 use Rattle.hall.specs.declared.view.View.{View}
-use Rattle.hall.specs.Plays.{Retracts}
 use Rattle.hall.specs.Refusals.{BusyForReading, BusyForWriting, ReadTwoWords}
 use Rattle.hall.specs.Views.{after_look, after_step, standing}
 use Rattle.apply_deferred.specs.SweepLaws.{sweep_goes}
 use Rattle.apply_deferred.specs.Sweeping.{Sweeps}
-use Rattle.shared_mutex.specs.Acquiring.{AnnouncesWriter, ElsewhereSame, FoundReaders, RefusesAnnouncing, RefusesExclusive, RefusesShared}
+use Rattle.shared_mutex.specs.Acquiring.{AnnouncesWriter, ElsewhereSame, FoundReaders, RefusesExclusive, RefusesShared}
 use Rattle.shared_mutex.specs.Refused.{AddsReads, GoesOn, ReadAsReader, ReadAsWriter, goes_on_none, goes_on_once, goes_on_then, joined_as_reader, joined_as_writer, reads_after, swept_goes_on}
 use Rattle.shared_mutex.specs.TriesRefused.{looked_goes_on}
-use Rattle.shared_mutex.specs.Tries.{AddsSteps, AnnouncesAtLast, GivesUp, IsTry, OnlyLooked, WritersRefused}
+use Rattle.shared_mutex.specs.Tries.{AddsSteps, AnnouncesAtLast, GivesUp, IsTry, OnlyLooked}
 use Rattle.shared_mutex.specs.TryLaws.{reader_looked, writer_looked}
 use Rattle.upgrade_mode.specs.Holding.{BeginsUpgrade}
 use Rattle.upgrade_mode.specs.Tries.{RisesAtLast}
@@ -26,7 +25,7 @@ use Rattle.sync_cell.specs.Waits.{GaveUpLate}
 use Rattle.map_cargo.specs.declared.size.MapCargo.{MapCargo}
 use Rattle.map_cargo.specs.declared.entry.Part.{Part}
 use Rattle.map_cargo.specs.Gaining.{gained_from}
-use Rattle.map_cargo.specs.Steps.{Gained, IsIdle, MoreSteps}
+use Rattle.map_cargo.specs.Steps.{Gained, MoreSteps}
 use Rattle.query_cells.specs.Answers.{TellsNothing, Took, TurnedAway}
 
 -- steps that left all that the pass knows and has to draw

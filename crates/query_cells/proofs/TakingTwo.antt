@@ -1,18 +1,16 @@
 -- Two cells that were taken at once: what the pass knows then, and by which steps it came to them.
-use Rattle.std.specs.Prelude.{Bool, false, ◌==◌, Option, ◌≡◌, ◌≢◌, ◌⊎◌, ℕ, zero, suc, ◌+◌, ◌<◌, true, List, [], ◌∷◌, ◌++◌, length, Some, None, slice_index_or, Result, Ok, Err, MatchResult}
+use Rattle.std.specs.Prelude.{Bool, false, ◌==◌, Option, ◌≡◌, ◌≢◌, ◌⊎◌, ℕ, zero, suc, ◌<◌, true, List, [], ◌∷◌, length, Some, Result, Ok, Err, MatchResult}
 use Rattle.std.proofs.Common.{refl, sym, ap, ◌∙◌, subst, inl, inr, ⊎_elim, arith}
 use Rattle.lock_model.specs.Locks.{Has}
 use Rattle.lock_model.specs.declared.model.Mode.{Mode}
-use Rattle.lock_model.specs.declared.model.Mode.TheVariants as modes
 use Rattle.hall.specs.declared.view.Footprint.{Footprint}
 use Rattle.hall.specs.declared.view.Kind.{Kind}
 use Rattle.hall.specs.declared.view.Kind.TheVariants as kinds
 use Rattle.hall.specs.declared.view.Shape.{Shape}
 use Rattle.hall.specs.declared.view.Standing.{Standing}
 use Rattle.hall.specs.declared.view.Standing.TheVariants.{Away, Inline, Slotted, Undecided, Upgrade, Exclusive}
-use Rattle.hall.specs.declared.view.StepEntry.{StepEntry}
 use Rattle.hall.specs.declared.view.View.{View}
-use Rattle.hall.specs.Treading.{Treads, treads_as}
+use Rattle.hall.specs.Treading.{treads_as}
 use Rattle.hall.specs.Views.{after_look, after_step, entry_of, mode_of, standing}
 use Rattle.shared_mutex.specs.Refused.{AddsReads}
 use Rattle.shared_mutex.specs.Tries.{AddsSteps, IsPatientTry, IsTry}
@@ -39,7 +37,7 @@ use Rattle.sync_cell.specs.Cells.{maps}
 use Rattle.sync_cell.specs.Gains.{AnyStep, GainedBy, GainedInOrder, gains_mode}
 use Rattle.sync_cell.specs.GainLaws.{any_tries, gained_in_order, gained_last}
 use Rattle.query_cells.specs.Answers.{TellsNothing}
-use Rattle.query_cells.specs.Two.{GainsInOrder, GuardsBoth, HoldsCells, IsAtCells, TakesBoth, both_wanted}
+use Rattle.query_cells.specs.Two.{GainsInOrder, IsAtCells, TakesBoth, both_wanted}
 use Rattle.query_cells.proofs.Pairs.{one_of_two}
 use Rattle.query_cells.proofs.Replies.{nothing_gained, nothing_then}
 use Rattle.query_cells.proofs.Taking.{Unchanged, announced_at_last, gained_later, unchanged_look, unchanged_once, unchanged_then}

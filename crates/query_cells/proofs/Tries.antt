@@ -1,6 +1,6 @@
 -- How queries came to their cells: what they tried, what they gained, and in which order.
-use Rattle.std.specs.Prelude.{◌≡◌, ◌≢◌, ◌⊎◌, ℕ, ◌<◌, ◌==◌, Bool, true, false, cond, List, [], ◌∷◌, ◌++◌}
-use Rattle.std.proofs.Common.{refl, sym, ap, ◌∙◌, subst, inl, inr, ⊎_elim, arith, append_assoc, eq-eqb}
+use Rattle.std.specs.Prelude.{◌≡◌, ℕ, Bool, true, false, cond, List, [], ◌∷◌}
+use Rattle.std.proofs.Common.{sym, ap, ◌∙◌, subst, ⊎_elim, arith, eq-eqb}
 use Rattle.std.proofs.lemmas.List.Elements.{All-nil, All-cons}
 use Rattle.lock_model.specs.Locks.{Has}
 use Rattle.hall.specs.declared.cargo.CargoRule.{Ghosts}
@@ -16,21 +16,19 @@ use Rattle.shared_mutex.specs.Acquiring.{RefusesExclusive, RefusesShared}
 use Rattle.shared_mutex.specs.Refused.{AddsReads, reads_then}
 use Rattle.shared_mutex.specs.Tries.{AddsSteps, IsTry}
 use Rattle.shared_mutex.specs.TryLaws.{adds_as, adds_then}
-use Rattle.sync_cell.specs.Gains.{GainedBy, GainedInOrder, IsQuiet, refuses_reader, refuses_writer}
-use Rattle.sync_cell.specs.GainLaws.{IsTrySuch, gained_then, plain_tries, quiet_for_reader, quiet_for_writer, reader_raced, still_in_order, tries_then, writer_raced}
+use Rattle.sync_cell.specs.Gains.{GainedInOrder, refuses_reader, refuses_writer}
+use Rattle.sync_cell.specs.GainLaws.{IsTrySuch, reader_raced, still_in_order, tries_then, writer_raced}
 use Rattle.query_rules.specs.declared.query.Query.{Query}
 use Rattle.query_rules.specs.declared.query.Query.TheVariants as query
 use Rattle.query_rules.specs.declared.query.Reply.{Reply}
-use Rattle.query_rules.specs.declared.query.Reply.TheVariants.{Placed, Busy, Late, Job}
 use Rattle.query_rules.specs.Licence.{taken_cells}
 use Rattle.map_cargo.specs.declared.size.MapCargo.{MapCargo}
 use Rattle.map_cargo.specs.declared.entry.Part.{Part}
 use Rattle.map_cargo.specs.Entries.{named_cells}
 use Rattle.map_cargo.specs.Licences.{LoadedOnce}
 use Rattle.map_cargo.specs.Steps.{MoreSteps}
-use Rattle.query_cells.specs.Asked.{GoesByTries, OnlyTried, TakesInOrder, is_granted, is_job}
-use Rattle.query_cells.specs.Answers.{Tells, TurnedAway}
-use Rattle.query_cells.specs.Placing.{IsPlacedUnder, PlacedUnder}
+use Rattle.query_cells.specs.Asked.{OnlyTried, TakesInOrder, is_granted}
+use Rattle.query_cells.specs.Answers.{TurnedAway}
 
 pub not_both : (b : Bool) → b ≡ true → b ≡ false → ⊥
 not_both b t f = absurd (cc)

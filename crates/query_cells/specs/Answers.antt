@@ -1,13 +1,11 @@
 -- Steps of one query: what they keep, and what they tell.
-use Rattle.std.specs.Prelude.{◌≡◌, ◌≢◌, ◌⊎◌, ℕ, ◌+◌, ◌<◌, ◌≤◌, Bool, List, [], ◌∷◌, ◌++◌, ◌||◌, All, MatchBool, Some, true, false}
+use Rattle.std.specs.Prelude.{◌≡◌, ◌≢◌, ℕ, ◌+◌, ◌<◌, ◌≤◌, Bool, List, ◌++◌, ◌||◌, All, MatchBool, Some, true, false}
 use Rattle.lock_model.specs.Locks.{Has}
-use Rattle.hall.specs.declared.view.Footprint.{Footprint}
 use Rattle.hall.specs.declared.view.View.{View}
 use Rattle.hall.specs.declared.view.StepEntry.{StepEntry}
 use Rattle.hall.specs.declared.view.Standing.{Standing}
 use Rattle.hall.specs.declared.view.Standing.TheVariants.{Away}
 use Rattle.hall.specs.Cargo.{exclusive_mode}
-use Rattle.hall.specs.Treading.{IsAt, IsWeakAt}
 use Rattle.hall.specs.Views.{standing, mode_of}
 use Rattle.query_rules.specs.declared.query.Query.{Query}
 use Rattle.query_rules.specs.declared.query.Query.TheVariants.{Get, Len, Put, Del, Add, Cas, PutLen, TryGet, TryPut, GetBy, PutBy}
@@ -19,7 +17,7 @@ use Rattle.map_cargo.specs.declared.size.MapCargo.{MapCargo}
 use Rattle.map_cargo.specs.declared.entry.Part.{Part}
 use Rattle.map_cargo.specs.Cells.{Means}
 use Rattle.map_cargo.specs.Entries.{named_cells, spoken_cells}
-use Rattle.map_cargo.specs.History.{words_of, plain_of, IsRested, IsSettled}
+use Rattle.map_cargo.specs.History.{words_of, plain_of, IsRested}
 use Rattle.map_cargo.specs.Steps.{Alike, Gained, MoreSteps}
 use Rattle.shared_mutex.specs.Tries.{AddsSteps, IsTry}
 use Rattle.query_cells.specs.Asked.{AddsReply, is_job, tells_write}

@@ -1,4 +1,4 @@
-use Rattle.std.proofs.Common.{◌<◌, ◌∙◌, ap, refl, subst, sym}
+use Rattle.std.proofs.Common.{◌<◌, refl, subst, sym}
 use Rattle.hall.specs.declared.view.Shape.{Shape}
 use Rattle.hall.specs.Fitting.{IsFormOf}
 use Rattle.hall.specs.Passes.{view, cargo_of}

@@ -1,4 +1,4 @@
-use Rattle.std.proofs.Common.{◌≡◌, ◌∙◌, ap, sym}
+use Rattle.std.proofs.Common.{◌∙◌, ap, sym}
 use Rattle.hall.specs.Cargo.{shared_mode}
 use Rattle.hall.specs.Passes.{view, cargo_of}
 use Rattle.hall.specs.Treading.{IsWeakAt, treads_then}

@@ -1,4 +1,4 @@
-use Rattle.std.proofs.Common.{◌≡◌, ◌∙◌, ap, refl, subst, sym}
+use Rattle.std.proofs.Common.{◌∙◌, ap, subst, sym}
 use Rattle.hall.specs.declared.view.Shape.{Shape}
 use Rattle.hall.specs.Passes.{view, cargo_of}
 use Rattle.hall.specs.Treading.{IsWeakAt, treads_none, treads_then}

@@ -1,17 +1,12 @@
 use Rattle.std.proofs.Common.{refl, inl, inr, [], ◌∷◌}
-use Rattle.hall.specs.declared.view.View.{View}
 use Rattle.hall.specs.Passes.{view, cargo_of, shape_of}
 use Rattle.lock_model.specs.declared.model.Mode.TheVariants.{Shared}
 use Rattle.query_rules.specs.declared.query.Query.TheVariants as query
 use Rattle.query_rules.specs.declared.query.Said.TheVariants.{Same}
-use Rattle.map_cargo.specs.declared.entry.Part.{Part}
-use Rattle.map_cargo.specs.Steps.{IsIdle}
-use Rattle.query_cells.specs.Answers.{Tells}
 use Rattle.query_cells.specs.Two.{IsAtCells}
 use Rattle.query_cells.proofs.AskingTwo.{both_in_order, both_tell, both_tread}
-use Rattle.query_cells.proofs.Pairs.{idle_alike, is_held, may_both, may_same_both, none_for_both, two_for, two_read}
+use Rattle.query_cells.proofs.Pairs.{is_held, may_same_both, none_for_both, two_read}
 use Rattle.query_cells.proofs.Trails.{alike_treads}
-use Rattle.query_cells.proofs.Tries.{same_in_both}
 use Rattle.query_cells.proofs.two.ask_both.Goals as goal
 
 -- two cells that are the same one

@@ -1,17 +1,12 @@
 use Rattle.std.proofs.Common.{refl, inl, inr, [], ◌∷◌}
-use Rattle.hall.specs.declared.view.View.{View}
 use Rattle.hall.specs.Passes.{view, cargo_of, shape_of}
 use Rattle.lock_model.specs.declared.model.Mode.TheVariants.{Exclusive}
 use Rattle.query_rules.specs.declared.query.Query.TheVariants as query
 use Rattle.query_rules.specs.declared.query.Said.TheVariants.{Same}
-use Rattle.map_cargo.specs.declared.entry.Part.{Part}
-use Rattle.map_cargo.specs.Steps.{IsIdle}
-use Rattle.query_cells.specs.Answers.{Tells}
 use Rattle.query_cells.specs.Two.{IsAtCells}
 use Rattle.query_cells.proofs.AskingTwo.{both_in_order, both_tell, both_tread}
-use Rattle.query_cells.proofs.Pairs.{idle_alike, may_move, may_same_move, none_for_move, two_told}
-use Rattle.query_cells.proofs.Trails.{alike_treads, stays_treads}
-use Rattle.query_cells.proofs.Tries.{same_in_move}
+use Rattle.query_cells.proofs.Pairs.{may_same_move, none_for_move, two_told}
+use Rattle.query_cells.proofs.Trails.{stays_treads}
 use Rattle.query_cells.proofs.two.ask_move.Goals as goal
 
 -- two cells that are the same one

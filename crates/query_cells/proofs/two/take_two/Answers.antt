@@ -1,4 +1,4 @@
-use Rattle.std.proofs.Common.{◌≡◌, ◌<◌, zero, suc, ℕ, length, ap, arith}
+use Rattle.std.proofs.Common.{◌≡◌, ◌<◌, ap}
 use Rattle.hall.specs.Passes.{view, shape_of}
 use Rattle.hall.specs.Views.{pending, standing}
 use Rattle.hall.specs.declared.view.Standing.TheVariants.{Away}
