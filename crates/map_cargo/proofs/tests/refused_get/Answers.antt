@@ -25,7 +25,7 @@ busy_read g v w lock fault word is away r =
     v w t.shape t.number (reader_refused g v lock w (Busy word) away s)
 
 pub try_lock_shared-requires-clause-clear : goal.try_lock_shared-requires-clause-clear
-try_lock_shared-requires-clause-clear g c κs within = λ k. ap pending (c.requires.idle.0 k)
+try_lock_shared-requires-clause-clear g c κs k = ap pending (c.requires.idle.0 k)
 
 pub note_refused-requires-clause-may : goal.note_refused-requires-clause-may
 note_refused-requires-clause-may g c =
