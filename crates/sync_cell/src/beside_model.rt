@@ -384,8 +384,11 @@ fn sequence<R: Abort + Wait>(
     ensures two { HasCell hall.now two.new Outside Lowered }
     ensures three { HasCell hall.now three.new Outside Lowered }
 {
-    let outside = Stand::at(Role::Outside);
-    let mut stands = (outside, outside, outside);
+    let mut stands = (
+        Stand::at(Role::Outside),
+        Stand::at(Role::Outside),
+        Stand::at(Role::Outside),
+    );
     let mut rest = code;
     for _ in 0..STEPS {
         let number = rest / SEATS % CALLS;
