@@ -9,3 +9,4 @@ pub mod TrailLaws
 pub mod Refused
 pub mod Within
 pub mod WithinLaws
+pub mod Beside

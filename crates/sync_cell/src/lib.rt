@@ -30,4 +30,6 @@ pub use waiting::{rlock, ulock, wlock};
 pub use within::{with_rlock, with_ulock, with_wlock};
 
 #[cfg(test)]
+mod beside_model;
+#[cfg(test)]
 mod tests;
