@@ -203,6 +203,33 @@ fn ask_get<A: Abort>(
     said
 }
 
+// The same under an index, with the place that it got.
+fn placed_get<A: Abort>(
+    rt: &A,
+    hall: &Hall<MapCargo>,
+    pass: &mut Pass<MapCargo>,
+    cell: u64,
+    key: u64,
+    index: u64,
+) -> (Said, u64)
+    requires pass { IsPassOf hall.now pass.old × Suits hall.now }
+    requires cell { (cell < (cargo_of hall.now).cells) × (cell < (shape_of hall.now).locks) }
+    requires idle { IsIdle (view pass.old) }
+    ensures pass { IsPassOf hall.now pass.new }
+    ensures idle { IsIdle (view pass.new) }
+    ensures quota { (view pass.new).quota ≡ (view pass.old).quota }
+{
+    let guard = shared(rt, hall, pass, cell);
+    let said = match get(hall, pass, cell, key) {
+        Some(value) => Said::Found(value),
+        None => Said::Absent,
+    };
+    let entry = entry_of(pass, index, Query::Get { cell, key }, said);
+    let place = place_read(hall, pass, &entry);
+    leave_shared(hall, pass, guard);
+    (said, place)
+}
+
 // One count of the keys from the lock to its release.
 fn ask_len<A: Abort>(rt: &A, hall: &Hall<MapCargo>, pass: &mut Pass<MapCargo>, cell: u64) -> Said
     requires pass { IsPassOf hall.now pass.old × Suits hall.now }
@@ -245,14 +272,10 @@ fn one_write_and_one_read(rt: HostRuntime) {
         Err(_) => unreachable!(),
     }
     leave(&hall, &mut pass, guard);
-    let guard = shared(&rt, &hall, &mut pass, 0);
-    assert_eq!(rt; get(&hall, &mut pass, 0, 7), Some(5));
-    let None = get(&hall, &mut pass, 0, 8) else {
-        rt.abort()
-    };
-    let entry = entry_of(&pass, 1, Query::Get { cell: 0, key: 8 }, Said::Absent);
-    assert_eq!(rt; place_read(&hall, &mut pass, &entry), 1);
-    leave_shared(&hall, &mut pass, guard);
+    let (said, place) = placed_get(&rt, &hall, &mut pass, 0, 7, 1);
+    assert!(rt; said == Said::Found(5) && place == 1);
+    let (said, place) = placed_get(&rt, &hall, &mut pass, 0, 8, 2);
+    assert!(rt; said == Said::Absent && place == 1);
     let closed = close(hall, pass);
     assert_eq!(rt; closed.word(25), 1);
     let row = [1, 0, 1, 0, 0, 7, 5, 0];

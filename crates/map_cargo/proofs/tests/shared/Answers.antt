@@ -6,7 +6,7 @@ use Rattle.map_cargo.specs.contracts.words.MapCargoCargoRule.TheImpl.{ghosts}
 use Rattle.map_cargo.proofs.tests.shared.Goals as goal
 
 pub try_lock_shared-requires-clause-clear : goal.try_lock_shared-requires-clause-clear
-try_lock_shared-requires-clause-clear g c κs within = λ k. ap pending (c.requires.idle.0 k)
+try_lock_shared-requires-clause-clear g c κs k = ap pending (c.requires.idle.0 k)
 
 pub returns-clause-mode : goal.returns-clause-mode
 returns-clause-mode g c = fits_shared (shape_of c.args.hall.now) (view c.try_lock_shared.new.pass) c.in-Ok.guard c.args.cell c.in-Ok.ensures.step.0 c.in-Ok.ensures.fits
