@@ -5,40 +5,40 @@ use Rattle.std.proofs.lemmas.List.Elements.{All-nil, All-cons}
 use Rattle.hall.specs.declared.cargo.CargoRule.{Ghosts}
 use Rattle.hall.specs.declared.guards.Form.{Form}
 use Rattle.hall.specs.declared.guards.TryFault.{TryFault}
-use Rattle.hall.specs.declared.view.Kind.{Kind}
-use Rattle.hall.specs.declared.view.Kind.TheVariants as kinds
+use Rattle.hall.specs.declared.view.StepKind.{StepKind}
+use Rattle.hall.specs.declared.view.StepKind.TheVariants as kinds
 use Rattle.hall.specs.declared.view.Standing.{Standing}
 use Rattle.hall.specs.declared.view.Standing.TheVariants.{Away, Announcing}
 use Rattle.hall.specs.declared.view.StepEntry.{StepEntry}
 use Rattle.hall.specs.declared.view.View.{View}
 use Rattle.hall.specs.Views.{after_look, after_step, entry_of, mode_of, standing}
 use Rattle.apply_deferred.specs.SweepLaws.{AllSweeping, is_sweeping, same_mode, sweep_goes}
-use Rattle.shared_mutex.specs.Tries.{AddsSteps, AnnouncesAtLast, HoldsAtLast, IsLook, IsPatientTry, OnlyLooked, is_retract}
+use Rattle.shared_mutex.specs.Tries.{AddsSteps, AnnouncesAtLast, HoldsAtLast, IsLook, IsPatientTry, StaysAsItWas, is_retract}
 use Rattle.shared_mutex.specs.TryLaws.{adds_as, adds_then, looked_once, looked_then, stands_still}
 use Rattle.shared_mutex.specs.Entering.{enters_last, enters_patiently}
 use Rattle.upgrade_mode.specs.Tries.{EntersUpgradeAtLast}
 use Rattle.acquire_many.specs.Met.{EntersAtLastBy}
 
-sweeping_patient : (k : Kind) → is_sweeping k ≡ true → is_retract k ≡ false
+sweeping_patient : (k : StepKind) → is_sweeping k ≡ true → is_retract k ≡ false
 sweeping_patient k e = elim k as (λ z. is_sweeping z ≡ true → is_retract z ≡ false) [ kinds.Retract ↦ λ h. absurd (cc) | kinds.UpRetract ↦ λ h. absurd (cc) | _ ↦ λ h. refl ] e
 
 -- a pass that holds no mode at the lock went on from u, which has the number of v
 module _ {P : Type 0} (v : View P) (lock : ℕ) (u w : View P) (same : u.number ≡ v.number) (free : mode_of (standing u lock) ≡ None) where
-  looks : OnlyLooked u lock w → AddsSteps (IsPatientTry v lock) u w
+  looks : StaysAsItWas u lock w → AddsSteps (IsPatientTry v lock) u w
   looks looked = adds_as (IsLook u lock) (IsPatientTry v lock) u w (λ e p. ((p.0 ∙ same, p.1, p.2 ∙ free), p.3)) looked.steps
 
-  step : (kind : Kind) (word : ℕ) (won : Bool) (y : Standing) (part : P) → is_retract kind ≡ false → w ≡ after_step u kind lock word won y part → AddsSteps (IsPatientTry v lock) u w
+  step : (kind : StepKind) (word : ℕ) (won : Bool) (y : Standing) (part : P) → is_retract kind ≡ false → w ≡ after_step u kind lock word won y part → AddsSteps (IsPatientTry v lock) u w
   step kind word won y part patient is =
       let e : StepEntry = entry_of u kind lock word won in (e ∷ [], ap (λ (z : View P). z.steps) is, All-cons (IsPatientTry v lock) e [] ((same, refl, free), patient) (All-nil (IsPatientTry v lock)))
 
 module _ {P : Type 0} where
   -- looks, and then a step
-  looks_step : (v o u w : View P) (lock : ℕ) (kind : Kind) (word : ℕ) (y : Standing) (part : P) → o.number ≡ v.number → mode_of (standing o lock) ≡ None → OnlyLooked o lock u → is_retract kind ≡ false → w ≡ after_step u kind lock word true y part → AddsSteps (IsPatientTry v lock) o w
+  looks_step : (v o u w : View P) (lock : ℕ) (kind : StepKind) (word : ℕ) (y : Standing) (part : P) → o.number ≡ v.number → mode_of (standing o lock) ≡ None → StaysAsItWas o lock u → is_retract kind ≡ false → w ≡ after_step u kind lock word true y part → AddsSteps (IsPatientTry v lock) o w
   looks_step v o u w lock kind word y part same free looked patient is =
       adds_then (IsPatientTry v lock) o u w (looks v lock o u same free looked) (step v lock u w (looked.number ∙ same) (ap mode_of (stands_still o u lock looked) ∙ free) kind word true y part patient is)
 
   -- looks, one look more, and then a step
-  tries_step : (v u w : View P) (lock : ℕ) (kind : Kind) (seen : ℕ) (y : Standing) (part : P) → mode_of (standing v lock) ≡ None → OnlyLooked v lock u → is_retract kind ≡ false → w ≡ after_step (after_look u kinds.Load lock seen) kind lock seen true y part → AddsSteps (IsPatientTry v lock) v w
+  tries_step : (v u w : View P) (lock : ℕ) (kind : StepKind) (seen : ℕ) (y : Standing) (part : P) → mode_of (standing v lock) ≡ None → StaysAsItWas v lock u → is_retract kind ≡ false → w ≡ after_step (after_look u kinds.Load lock seen) kind lock seen true y part → AddsSteps (IsPatientTry v lock) v w
   tries_step v u w lock kind seen y part free looked patient is =
       let look : View P = after_look u kinds.Load lock seen in
       looks_step v v look w lock kind seen y part refl free (looked_then v u look lock looked (looked_once u look kinds.Load lock seen refl refl)) patient is
@@ -62,7 +62,7 @@ module _ {C P : Type 0} (g : Ghosts C P) (v w : View P) (lock : ℕ) (away : sta
   pub patient_writer : (a : View P) (misses : List TryFault) → AnnouncesAtLast g v lock faults a → HoldsAtLast g a lock misses w → AddsSteps (IsPatientTry v lock) v w
   patient_writer a misses began held =
       let u : View P = began.0 in let won = began.3 in let seen : ℕ = won.1.0 in let look : View P = after_look u kinds.Load lock seen in let b : View P = won.0 in
-      let looked : OnlyLooked v lock look = looked_then v u look lock began.2 (looked_once u look kinds.Load lock seen refl refl) in
+      let looked : StaysAsItWas v lock look = looked_then v u look lock began.2 (looked_once u look kinds.Load lock seen refl refl) in
       let free : mode_of (standing look lock) ≡ None = ap mode_of (stands_still v look lock looked ∙ away) in
       let announced : AddsSteps (IsPatientTry v lock) v b = tries_step v u b lock kinds.Announce seen (Announcing 0 0 false) look.part (ap mode_of away) began.2 refl won.1.2.0 in
       let free_b : mode_of (standing b lock) ≡ None = ap (λ (z : View P). mode_of (standing z lock)) won.1.2.0 ∙ same_mode look.standings lock (Announcing 0 0 false) (sym free) ∙ free in

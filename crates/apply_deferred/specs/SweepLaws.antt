@@ -3,8 +3,8 @@ use Rattle.std.specs.Prelude.{◌≡◌, ℕ, zero, suc, ◌+◌, ◌*◌, ◌<�
 use Rattle.std.proofs.Common.{arith, refl, sym, ap, ◌∙◌, subst, ⊎_elim, append_assoc, eq-eqb, ne_eqb, length-set, get_or-set_same, get_or-set_other, length-append}
 use Rattle.hall.specs.declared.cargo.CargoRule.{Ghosts}
 use Rattle.hall.specs.declared.view.View.{View}
-use Rattle.hall.specs.declared.view.Kind.{Kind}
-use Rattle.hall.specs.declared.view.Kind.TheVariants as kinds
+use Rattle.hall.specs.declared.view.StepKind.{StepKind}
+use Rattle.hall.specs.declared.view.StepKind.TheVariants as kinds
 use Rattle.hall.specs.declared.view.StepEntry.{StepEntry}
 use Rattle.hall.specs.declared.view.Standing.{Standing}
 use Rattle.hall.specs.declared.view.Standing.TheVariants.{Away, Announcing}
@@ -16,7 +16,7 @@ use Rattle.hall.specs.Views.{entry_at, mode_of, place_of, standing, after_step_a
 use Rattle.apply_deferred.specs.Sweeping.{SweepsSlot, SweepsFirst, Sweeps}
 
 -- the kinds of step of a sweep
-abbrev pub is_sweeping : Kind → Bool
+abbrev pub is_sweeping : StepKind → Bool
 is_sweeping kinds.Look = true
 is_sweeping kinds.Pick = true
 is_sweeping kinds.AddHand = true
@@ -72,7 +72,7 @@ module _ {P : Type 0} where
   none v lock = record { shape = refl; number = refl; part = refl; quota = refl; span = refl; taken = refl; wide = refl; elsewhere = λ k ne. refl; added = []; steps = refl; few = omega arith; sweeping = tt; mode = refl; trail = treads_none (IsAt lock) v v refl refl }
 
   -- one step of a sweep
-  once : (v w : View P) (lock place word : ℕ) (kind : Kind) (won : Bool) (y : Standing) → is_sweeping kind ≡ true → mode_of y ≡ mode_of (standing v lock) → w ≡ after_step_at v kind lock place word won y v.part → GoesOnSweeping v w lock 1
+  once : (v w : View P) (lock place word : ℕ) (kind : StepKind) (won : Bool) (y : Standing) → is_sweeping kind ≡ true → mode_of y ≡ mode_of (standing v lock) → w ≡ after_step_at v kind lock place word won y v.part → GoesOnSweeping v w lock 1
   once v w lock place word kind won y sweeps mode is = subst (λ (z : View P). GoesOnSweeping v z lock 1) (sym is) record {
     shape = refl;
     number = refl;
@@ -113,7 +113,7 @@ module _ {P : Type 0} where
   no_more_than v w lock m n le a = record { shape = a.shape; number = a.number; part = a.part; quota = a.quota; span = a.span; taken = a.taken; wide = a.wide; elsewhere = a.elsewhere; added = a.added; steps = a.steps; few = (let f = a.few in omega arith); sweeping = a.sweeping; mode = a.mode; trail = a.trail }
 
   -- the standing after a step
-  stands : (v w : View P) (lock place word : ℕ) (kind : Kind) (won : Bool) (y : Standing) → lock < length v.standings → w ≡ after_step_at v kind lock place word won y v.part → standing w lock ≡ y
+  stands : (v w : View P) (lock place word : ℕ) (kind : StepKind) (won : Bool) (y : Standing) → lock < length v.standings → w ≡ after_step_at v kind lock place word won y v.part → standing w lock ≡ y
   stands v w lock place word kind won y near is = ap (λ (z : View P). standing z lock) is ∙ get_or-set_same v.standings lock y Away near
 
 module _ {C P : Type 0} (g : Ghosts C P) (lock : ℕ) where

@@ -7,7 +7,7 @@ use Rattle.waiter_chain.specs.Hands.{StandsAt}
 use Rattle.waiter_chain.specs.declared.view.View.{View}
 use Rattle.waiter_chain.specs.declared.view.Stage.{Stage}
 use Rattle.waiter_chain.specs.declared.view.Stage.TheVariants.{Done}
-use Rattle.waiter_chain.specs.declared.view.Event.TheVariants.{SetStatus}
+use Rattle.waiter_chain.specs.declared.view.StepKind.TheVariants.{SetStatus}
 use Rattle.waiter_chain.specs.declared.turn.Kind.TheVariants.{WithJob}
 use Rattle.waiter_chain.specs.Steps.{SeatState, OwnHand, entry, collected}
 use Rattle.waiter_chain.specs.Calls.{MayEnter, Rested}

@@ -6,7 +6,7 @@ use Rattle.waiter_chain.specs.Chains.{owed}
 use Rattle.waiter_chain.specs.Steps.{SeatState, OwnHand, SoundNext, entry, moved}
 use Rattle.waiter_chain.specs.Calls.{OwnsBy, Served}
 use Rattle.waiter_chain.specs.declared.view.Ownership.{Ownership}
-use Rattle.waiter_chain.specs.declared.view.Event.TheVariants.{LoadStatus}
+use Rattle.waiter_chain.specs.declared.view.StepKind.TheVariants.{LoadStatus}
 use Rattle.waiter_chain.specs.declared.view.Stage.TheVariants.{Holding, Owns}
 use Rattle.waiter_chain.specs.declared.turn.Turn.{Turn}
 use Rattle.combine_job.specs.declared.parcel.Kept.{Kept}

@@ -4,7 +4,7 @@ ghost use Rattle.waiter_chain.specs.Goods.{part};
 ghost use Rattle.waiter_chain.specs.Steps.{entry, collected, SoundAnswer};
 ghost use Rattle.waiter_chain.specs.Calls.{IsIdle, ArrivedAs};
 ghost use Rattle.waiter_chain.specs.declared.turn.Kind.TheVariants.{WithJob};
-ghost use Rattle.waiter_chain.specs.declared.view.Event.TheVariants.{SetStatus};
+ghost use Rattle.waiter_chain.specs.declared.view.StepKind.TheVariants.{SetStatus};
 ghost use Rattle.waiter_chain.specs.declared.view.Stage.TheVariants.{Done};
 ghost use Rattle.combine_job.specs.declared.parcel.Parcel.TheVariants.{Value, Posted, Answered};
 ghost use Rattle.combine_job.specs.Parcels.{Related, Ruled};

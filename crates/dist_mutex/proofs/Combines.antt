@@ -4,7 +4,7 @@ use Rattle.std.proofs.lemmas.Bool.{le-ltb}
 use Rattle.waiter_chain.specs.Steps.{SeatState}
 use Rattle.waiter_chain.specs.Calls.{readied_state}
 use Rattle.waiter_chain.specs.declared.view.Opening.{Opening}
-use Rattle.waiter_chain.specs.declared.view.Entry.{Entry}
+use Rattle.waiter_chain.specs.declared.view.StepEntry.{StepEntry}
 use Rattle.waiter_chain.specs.declared.turn.Turn.{Turn}
 use Rattle.combine_job.specs.declared.parcel.Kept.{Kept}
 use Rattle.combine_job.specs.declared.parcel.Parcel.{Parcel}
@@ -17,7 +17,7 @@ module _ {V J O X : Type 0} (rooms : V → ℕ) (means : V → J → Result O X 
   Found slots m n t kept = Stands rooms means o m.0.own m.0.quota kept × Owning rooms means slots n 0 [] t kept
       × (n.0.number ≡ m.0.number) × (n.0.spare ≡ m.0.spare) × (n.0.past ≡ m.0.past) × (n.0.quota ≡ m.0.quota) × (n.0.own ≡ m.0.own)
 
-  of-locked : (slots : ℕ) (m n : SeatState (Parcel V J O X)) (e : Entry) (t : Turn) (kept : Kept V) → LockedBy rooms means o slots m n e t kept → Found slots m n t kept
+  of-locked : (slots : ℕ) (m n : SeatState (Parcel V J O X)) (e : StepEntry) (t : Turn) (kept : Kept V) → LockedBy rooms means o slots m n e t kept → Found slots m n t kept
   of-locked slots m n e t kept l =
       (l.1, l.2, ap (λ (z : SeatState (Parcel V J O X)). z.0.number) l.0, ap (λ (z : SeatState (Parcel V J O X)). z.0.spare) l.0, ap (λ (z : SeatState (Parcel V J O X)). z.0.past) l.0, ap (λ (z : SeatState (Parcel V J O X)). z.0.quota) l.0, ap (λ (z : SeatState (Parcel V J O X)). z.0.own) l.0)
 

@@ -4,15 +4,15 @@ use Rattle.std.specs.Result.{result_err}
 use Rattle.waiter_chain.specs.Steps.{SeatState, entry}
 use Rattle.waiter_chain.specs.Calls.{WasBusy}
 use Rattle.waiter_chain.specs.declared.view.Opening.{Opening}
-use Rattle.waiter_chain.specs.declared.view.Entry.{Entry}
-use Rattle.waiter_chain.specs.declared.view.Event.TheVariants.{TryIn}
+use Rattle.waiter_chain.specs.declared.view.StepEntry.{StepEntry}
+use Rattle.waiter_chain.specs.declared.view.StepKind.TheVariants.{TryIn}
 use Rattle.waiter_chain.specs.declared.turn.DistBusy.{DistBusy}
 use Rattle.combine_job.specs.declared.parcel.Parcel.{Parcel}
 use Rattle.dist_mutex.specs.declared.owner.Owner.{Owner}
 use Rattle.dist_mutex.specs.Owners.{LockedBy}
 use Rattle.dist_mutex.specs.Tries.{fault_of, last_fault}
 
-last_of : (before : Option DistBusy) (xs : List Entry) (e : Entry) → last_fault before (xs ++ e ∷ []) ≡ fault_of e.word
+last_of : (before : Option DistBusy) (xs : List StepEntry) (e : StepEntry) → last_fault before (xs ++ e ∷ []) ≡ fault_of e.word
 last_of before [] e = refl
 last_of before (x ∷ xs) e = last_of (fault_of x.word) xs e
 

@@ -11,7 +11,7 @@ use Rattle.waiter_chain.specs.Steps.{SeatState, Sound, ownership, moved}
 use Rattle.waiter_chain.specs.Calls.{Won}
 use Rattle.waiter_chain.specs.declared.view.Opening.{Opening}
 use Rattle.waiter_chain.specs.declared.view.View.{View}
-use Rattle.waiter_chain.specs.declared.view.Entry.{Entry}
+use Rattle.waiter_chain.specs.declared.view.StepEntry.{StepEntry}
 use Rattle.waiter_chain.specs.declared.view.Stage.TheVariants.{Owns}
 use Rattle.waiter_chain.specs.declared.turn.Turn.{Turn}
 use Rattle.combine_job.specs.declared.parcel.Kept.{Kept}
@@ -64,7 +64,7 @@ module _ {V J O X : Type 0} (rooms : V → ℕ) (means : V → J → Result O X 
         },
       )
 
-  pub locks : (slots : ℕ) (t : Turn) (m old n : SeatState (Parcel V J O X)) (e : Entry) (kept : Kept V) → (w : Won (Ruled rooms means is_ready o) slots t m e old)
+  pub locks : (slots : ℕ) (t : Turn) (m old n : SeatState (Parcel V J O X)) (e : StepEntry) (kept : Kept V) → (w : Won (Ruled rooms means is_ready o) slots t m e old)
       → w.0 ≡ Value kept → n ≡ (old.0, (0, None) ∷ []) → LockedBy rooms means o slots m n e t kept
   locks slots t m old n e kept w same now =
       let y : Parcel V J O X = w.0 in

@@ -3,8 +3,8 @@ use Rattle.std.proofs.Common.{◌≡◌, ℕ, ◌+◌, ◌-◌, ◌*◌, Result,
 use Rattle.waiter_chain.specs.Steps.{SeatState, entry}
 use Rattle.waiter_chain.specs.declared.view.Opening.{Opening}
 use Rattle.waiter_chain.specs.declared.view.View.{View}
-use Rattle.waiter_chain.specs.declared.view.Entry.{Entry}
-use Rattle.waiter_chain.specs.declared.view.Event.TheVariants.{Serve}
+use Rattle.waiter_chain.specs.declared.view.StepEntry.{StepEntry}
+use Rattle.waiter_chain.specs.declared.view.StepKind.TheVariants.{Serve}
 use Rattle.waiter_chain.specs.declared.turn.Turn.{Turn}
 use Rattle.combine_job.specs.declared.parcel.Kept.{Kept}
 use Rattle.combine_job.specs.declared.parcel.Parcel.{Parcel}
@@ -23,7 +23,7 @@ module _ {V J O X : Type 0} (rooms : V → ℕ) (means : V → J → Result O X 
   pub run_went : (slots count : ℕ) (ran : List (Parcel V J O X × Parcel V J O X)) (t : Turn) (link : ℕ) (kept : Kept V) (m n : SeatState (Parcel V J O X)) (u : Turn) (later : Kept V) → RanNext rooms means slots count ran t link kept m n u later → Went count ran (serves m.0.number (t.first - 2) ∷ []) m n
   run_went slots count ran t link kept m n u later r =
       let l : SeatState (Parcel V J O X) = r.2 in let s : SeatState (Parcel V J O X) = r.3 in let w = r.6.4 in let x : ℕ = t.first - 2 in
-      let e : Entry = entry l.0 Serve (1 + 2 * x) 3 in
+      let e : StepEntry = entry l.0 Serve (1 + 2 * x) 3 in
       let served : Went count ran (e ∷ []) l s = subst (Went count ran (e ∷ []) l) (sym w.7) (record { number = refl; spare = refl; past = refl; quota = refl; own = refl; steps = refl }) in
       let here : l.0 ≡ m.0 = r.5 in
       went_to count ran (serves m.0.number x ∷ []) m s n (ap (λ (z : SeatState (Parcel V J O X)). z.0) r.8)

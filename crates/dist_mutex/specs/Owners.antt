@@ -6,9 +6,9 @@ use Rattle.waiter_chain.specs.Chains.{owed}
 use Rattle.waiter_chain.specs.Steps.{SeatState, ownership, entry, moved, with_steps}
 use Rattle.waiter_chain.specs.Calls.{IsIdle, OwnsBy, readied_state}
 use Rattle.waiter_chain.specs.declared.view.Opening.{Opening}
-use Rattle.waiter_chain.specs.declared.view.Entry.{Entry}
+use Rattle.waiter_chain.specs.declared.view.StepEntry.{StepEntry}
 use Rattle.waiter_chain.specs.declared.view.Ownership.{Ownership}
-use Rattle.waiter_chain.specs.declared.view.Event.TheVariants.{SwapIn, LoadStatus}
+use Rattle.waiter_chain.specs.declared.view.StepKind.TheVariants.{SwapIn, LoadStatus}
 use Rattle.waiter_chain.specs.declared.view.Stage.TheVariants.{Behind, Owns}
 use Rattle.waiter_chain.specs.declared.turn.Turn.{Turn}
 use Rattle.combine_job.specs.declared.parcel.Kept.{Kept}
@@ -36,7 +36,7 @@ module _ {P : Type 0} where
   -- the pass is idle again: its quota has fallen by the number of jobs that were due, these jobs and their answers stand at the end of its list, and it made at most so many steps
   abbrev pub Spent : ℕ → ℕ → List (P × P) → SeatState P → SeatState P → Type 0
   Spent most due ran m n = IsIdle n × (n.0.number ≡ m.0.number) × (n.0.spare ≡ m.0.spare) × (n.0.past ≡ m.0.past) × (n.0.quota ≡ m.0.quota - due) × (n.0.own ≡ m.0.own ++ ran)
-      × ((made : List Entry) × (n.0.steps ≡ m.0.steps ++ made) × (length made ≤ most))
+      × ((made : List StepEntry) × (n.0.steps ≡ m.0.steps ++ made) × (length made ≤ most))
 
 module _ {V J O X : Type 0} where
   -- the pass is idle again, has paid for one job, and has it with its answer at the end of its list
@@ -68,7 +68,7 @@ module _ {V J O X : Type 0} (rooms : V → ℕ) (means : V → J → Result O X 
     pub small : m.0.quota < 18446744073709551616
 
   -- by the step e the pass has become the owner, and this is the value that it found
-  abbrev pub LockedBy : Opening (Parcel V J O X) → ℕ → SeatState (Parcel V J O X) → SeatState (Parcel V J O X) → Entry → Turn → Kept V → Type 0
+  abbrev pub LockedBy : Opening (Parcel V J O X) → ℕ → SeatState (Parcel V J O X) → SeatState (Parcel V J O X) → StepEntry → Turn → Kept V → Type 0
   LockedBy o slots m n e t kept = (n ≡ (moved m.0 (Owns (ownership t.first t.end t.mark false (Value kept))) e, (0, None) ∷ [])) × Stands o m.0.own m.0.quota kept × Owning slots n 0 [] t kept
 
   -- the pass entered and found the lock free; or it waited behind another, polled its own status until that was 4 or more, and was then the owner

@@ -2,8 +2,8 @@
 use Rattle.std.specs.Prelude.{◌≡◌, ◌≢◌, ℕ, List, [], ◌∷◌, ◌++◌, Result, Option, Some, None, map, All, nat_eq, if◌then◌else◌}
 use Rattle.waiter_chain.specs.Steps.{SeatState, entry, with_steps}
 use Rattle.waiter_chain.specs.declared.view.Opening.{Opening}
-use Rattle.waiter_chain.specs.declared.view.Entry.{Entry}
-use Rattle.waiter_chain.specs.declared.view.Event.TheVariants.{TryIn}
+use Rattle.waiter_chain.specs.declared.view.StepEntry.{StepEntry}
+use Rattle.waiter_chain.specs.declared.view.StepKind.TheVariants.{TryIn}
 use Rattle.waiter_chain.specs.declared.turn.Turn.{Turn}
 use Rattle.waiter_chain.specs.declared.turn.DistBusy.{DistBusy}
 use Rattle.combine_job.specs.declared.parcel.Kept.{Kept}
@@ -15,7 +15,7 @@ abbrev pub fault_of : ℕ → Option DistBusy
 fault_of word = if nat_eq word 0 then None else Some record { word = word }
 
 -- what the last of these exchanges was refused with, where `before` is what the one before them was refused with
-abbrev pub last_fault : Option DistBusy → List Entry → Option DistBusy
+abbrev pub last_fault : Option DistBusy → List StepEntry → Option DistBusy
 last_fault before [] = before
 last_fault before (e ∷ es) = last_fault (fault_of e.word) es
 

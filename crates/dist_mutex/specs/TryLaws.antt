@@ -4,8 +4,8 @@ use Rattle.std.proofs.Common.{refl, sym, ap, ◌∙◌, subst, append_assoc}
 use Rattle.std.proofs.lemmas.List.Elements.{All-nil, All-cons, All-append}
 use Rattle.waiter_chain.specs.Steps.{SeatState, entry, with_steps}
 use Rattle.waiter_chain.specs.declared.view.Opening.{Opening}
-use Rattle.waiter_chain.specs.declared.view.Entry.{Entry}
-use Rattle.waiter_chain.specs.declared.view.Event.TheVariants.{TryIn}
+use Rattle.waiter_chain.specs.declared.view.StepEntry.{StepEntry}
+use Rattle.waiter_chain.specs.declared.view.StepKind.TheVariants.{TryIn}
 use Rattle.waiter_chain.specs.declared.turn.Turn.{Turn}
 use Rattle.waiter_chain.specs.declared.turn.DistBusy.{DistBusy}
 use Rattle.combine_job.specs.declared.parcel.Kept.{Kept}
@@ -22,7 +22,7 @@ all_words words w a b = All-append (λ x. x ≢ 0) words (w ∷ []) a (All-cons 
 
 module _ {P : Type 0} where
   pub tried_more : (xs ys : List ℕ) (m : SeatState P) → tried_state ys (tried_state xs m) ≡ tried_state (xs ++ ys) m
-  tried_more xs ys m = ap (λ (zs : List Entry). (with_steps m.0 m.0.stage zs, m.1))
+  tried_more xs ys m = ap (λ (zs : List StepEntry). (with_steps m.0 m.0.stage zs, m.1))
       (append_assoc m.0.steps (map (entry m.0 TryIn 0) xs) (map (entry m.0 TryIn 0) ys) ∙ ap (λ zs. m.0.steps ++ zs) (sym (map-append (entry m.0 TryIn 0) xs ys)))
 
   pub refused_again : (m l n : SeatState P) (f g : DistBusy) → Refused m f l → Refused l g n → Refused m g n

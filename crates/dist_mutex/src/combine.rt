@@ -1,7 +1,7 @@
 //! How a pass posts a job, which it or another owner runs.
 ghost use Rattle.std.specs.Prelude.{◌≡◌, ◌≢◌, ◌+◌, ◌-◌, ◌*◌, ◌<◌, ◌≤◌, ℕ, [], ◌∷◌, ◌++◌, List, Some, None};
 ghost use Rattle.waiter_chain.specs.Calls.{IsIdle};
-ghost use Rattle.waiter_chain.specs.declared.view.Entry.{Entry};
+ghost use Rattle.waiter_chain.specs.declared.view.StepEntry.{StepEntry};
 ghost use Rattle.waiter_chain.specs.declared.view.Stage.TheVariants.{Behind};
 ghost use Rattle.combine_job.specs.declared.parcel.Kept.{Kept};
 ghost use Rattle.combine_job.specs.declared.parcel.Parcel.TheVariants.{Value, Posted, Answered};
@@ -31,7 +31,7 @@ impl<V: Room, J: Job<V>> DistMutex<V, J> {
         ensures own { IsSamePass pass.old pass.new }
         ensures runs { HasNoRuns pass.new }
         ensures answered { (job : J) → HasPosted V.rooms J.means J.is_ready (opening_of self.now) (slots_of self.now) job turn (dist_state pass.old)
-            → (made : List Entry) × WasAnswered V.rooms J.means job result made (dist_state pass.old) (dist_state pass.new) × Unlocked (dist_view pass.old).number (combine_of self.now) turn made }
+            → (made : List StepEntry) × WasAnswered V.rooms J.means job result made (dist_state pass.old) (dist_state pass.new) × Unlocked (dist_view pass.old).number (combine_of self.now) turn made }
     {
         let slot = 1 + 2 * pass.number();
         let value = self.chain.move_slot(&mut pass.pass, 0, None);
@@ -54,7 +54,7 @@ impl<V: Room, J: Job<V>> DistMutex<V, J> {
         ensures own { IsSamePass pass.old pass.new }
         ensures runs { HasNoRuns pass.new }
         ensures answered { (job : J) → (dist_view pass.old).stage ≡ Behind pass.old.pass.behind (Some (Posted job))
-            → (made : List Entry) × WasAnswered V.rooms J.means job result made (dist_state pass.old) (dist_state pass.new) × Waited (dist_view pass.old).number (combine_of self.now) pass.old.pass.behind made }
+            → (made : List StepEntry) × WasAnswered V.rooms J.means job result made (dist_state pass.old) (dist_state pass.new) × Waited (dist_view pass.old).number (combine_of self.now) pass.old.pass.behind made }
     {
         for _ in rt.forever() {
             match self.chain.poll(&mut pass.pass) {
@@ -83,7 +83,7 @@ impl<V: Room, J: Job<V>> DistMutex<V, J> {
         ensures runs { HasNoRuns pass.new }
         ensures answered { RanOne (dist_state pass.old) (dist_state pass.new) (Posted job) (Answered result) }
         ensures related { (v : Kept V) × (w : Kept V) × Related V.rooms J.means (Value v) (Posted job) (Answered result) (Value w) }
-        ensures steps { (made : List Entry) × ((dist_view pass.new).steps ≡ (dist_view pass.old).steps ++ made) × Combined (dist_view pass.old).number (combine_of self.now) made }
+        ensures steps { (made : List StepEntry) × ((dist_view pass.new).steps ≡ (dist_view pass.old).steps ++ made) × Combined (dist_view pass.old).number (combine_of self.now) made }
         ensures rises { (p : ℕ) → result.at ≤ p → places p (dist_view pass.old).own ≡ 0 }
     {
         match post(&self.chain, &mut pass.pass, job) {

@@ -3,8 +3,8 @@ ghost use Rattle.std.specs.Prelude.{◌≡◌, ◌≢◌, ◌⊎◌, ◌+◌, �
 ghost use Rattle.atomic_table.specs.Table.{rest};
 ghost use Rattle.waiter_chain.specs.Steps.{SeatState, entry};
 ghost use Rattle.waiter_chain.specs.Calls.{IsIdle, IsBehind, HasTurn, MayEnd, Won, WasBusy};
-ghost use Rattle.waiter_chain.specs.declared.view.Event.TheVariants as event;
-ghost use Rattle.waiter_chain.specs.declared.view.Entry.{Entry};
+ghost use Rattle.waiter_chain.specs.declared.view.StepKind.TheVariants as step_kind;
+ghost use Rattle.waiter_chain.specs.declared.view.StepEntry.{StepEntry};
 ghost use Rattle.combine_job.specs.declared.parcel.Kept.{Kept};
 ghost use Rattle.combine_job.specs.declared.parcel.Parcel.TheVariants.{Value, Posted, Answered};
 ghost use Rattle.combine_job.specs.Parcels.{Related, Ruled, places};
@@ -26,11 +26,11 @@ impl<V: Room, J: Job<V>> DistMutex<V, J> {
     pub(crate) fn take(&self, pass: &mut DistPass<V, J>, turn: Turn) -> Owner<V>
         requires own { IsDistPassOf self.now pass.old }
         requires runs { runs_of pass.old ≡ [] }
-        requires won { (m : _) × (e : Entry) × Won (Ruled V.rooms J.means J.is_ready (opening_of self.now)) (slots_of self.now) turn m e (dist_state pass.old) }
+        requires won { (m : _) × (e : StepEntry) × Won (Ruled V.rooms J.means J.is_ready (opening_of self.now)) (slots_of self.now) turn m e (dist_state pass.old) }
         ensures own { IsSamePass pass.old pass.new }
         ensures runs { HasNoRuns pass.new }
         ensures turn { result.turn ≡ turn }
-        ensures locked { (m : _) (e : Entry) → Won (Ruled V.rooms J.means J.is_ready (opening_of self.now)) (slots_of self.now) turn m e (dist_state pass.old) → LockedBy V.rooms J.means (opening_of self.now) (slots_of self.now) m (dist_state pass.new) e result.turn result.kept }
+        ensures locked { (m : _) (e : StepEntry) → Won (Ruled V.rooms J.means J.is_ready (opening_of self.now)) (slots_of self.now) turn m e (dist_state pass.old) → LockedBy V.rooms J.means (opening_of self.now) (slots_of self.now) m (dist_state pass.new) e result.turn result.kept }
     {
         let parcel = self.chain.move_slot(&mut pass.pass, 0, None);
         let kept = parcel.unwrap().into_kept();
@@ -43,7 +43,7 @@ impl<V: Room, J: Job<V>> DistMutex<V, J> {
         requires idle { IsAtRest pass.old }
         ensures own { IsSamePass pass.old pass.new }
         ensures runs { HasNoRuns pass.new }
-        ensures answer { MatchResult result (λ o. LockedBy V.rooms J.means (opening_of self.now) (slots_of self.now) (dist_state pass.old) (dist_state pass.new) (entry (dist_view pass.old) event.TryIn 0 0) o.turn o.kept) (WasBusy (dist_state pass.old) (dist_state pass.new)) }
+        ensures answer { MatchResult result (λ o. LockedBy V.rooms J.means (opening_of self.now) (slots_of self.now) (dist_state pass.old) (dist_state pass.new) (entry (dist_view pass.old) step_kind.TryIn 0 0) o.turn o.kept) (WasBusy (dist_state pass.old) (dist_state pass.new)) }
     {
         let turn = self.chain.try_in(&mut pass.pass)?;
         Ok(self.take(pass, turn))
@@ -70,7 +70,7 @@ impl<V: Room, J: Job<V>> DistMutex<V, J> {
         requires behind { IsBehind pass.old.pass.behind (dist_state pass.old) }
         ensures own { IsSamePass pass.old pass.new }
         ensures runs { HasNoRuns pass.new }
-        ensures owner { (k : ℕ) × LockedBy V.rooms J.means (opening_of self.now) (slots_of self.now) (polled_state k (dist_state pass.old)) (dist_state pass.new) (entry (dist_view pass.old) event.LoadStatus (1 + 2 * (dist_view pass.old).number) (result.turn.end + 4)) result.turn result.kept }
+        ensures owner { (k : ℕ) × LockedBy V.rooms J.means (opening_of self.now) (slots_of self.now) (polled_state k (dist_state pass.old)) (dist_state pass.new) (entry (dist_view pass.old) step_kind.LoadStatus (1 + 2 * (dist_view pass.old).number) (result.turn.end + 4)) result.turn result.kept }
     {
         for _ in rt.forever() {
             match self.chain.poll(&mut pass.pass) {

@@ -2,7 +2,7 @@
 ghost use Rattle.std.specs.Prelude.{◌≡◌, ◌≢◌, ◌+◌, ◌-◌, ◌*◌, ◌<◌, ◌≤◌, ℕ, [], ◌∷◌, ◌++◌, List, MatchResult, Some, None, true};
 ghost use Rattle.atomic_table.specs.Table.{rest};
 ghost use Rattle.waiter_chain.specs.Calls.{IsIdle, HasTurn, MayEnd};
-ghost use Rattle.waiter_chain.specs.declared.view.Entry.{Entry};
+ghost use Rattle.waiter_chain.specs.declared.view.StepEntry.{StepEntry};
 ghost use Rattle.combine_job.specs.declared.parcel.Parcel.TheVariants.{Value};
 ghost use Rattle.combine_job.specs.Parcels.{Related, Ruled};
 ghost use Rattle.combine_job.specs.Combining.{HasJob};
@@ -119,7 +119,7 @@ impl<V: Room, J: Job<V>> DistMutex<V, J> {
         ensures own { IsSamePass pass.old pass.new }
         ensures runs { HasNoRuns pass.new }
         ensures idle { IsIdle (dist_state pass.new) }
-        ensures released { (made : List Entry) × Went (due_of pass.old) (runs_of pass.old) made (dist_state pass.old) (dist_state pass.new) × Unlocks (dist_view pass.old).number (combine_of self.now) turn result.combined made result.next }
+        ensures released { (made : List StepEntry) × Went (due_of pass.old) (runs_of pass.old) made (dist_state pass.old) (dist_state pass.new) × Unlocks (dist_view pass.old).number (combine_of self.now) turn result.combined made result.next }
     {
         let limit = self.combine();
         let mut turn = turn;
@@ -163,7 +163,7 @@ impl<V: Room, J: Job<V>> DistMutex<V, J> {
         ensures own { IsSamePass pass.old pass.new }
         ensures runs { HasNoRuns pass.new }
         ensures spent { Spent (7 * result.combined + 6) (due_of pass.old) (runs_of pass.old) (dist_state pass.old) (dist_state pass.new) }
-        ensures released { (made : List Entry) × ((dist_view pass.new).steps ≡ (dist_view pass.old).steps ++ made) × Unlocks (dist_view pass.old).number (combine_of self.now) owner.turn result.combined made result.next }
+        ensures released { (made : List StepEntry) × ((dist_view pass.new).steps ≡ (dist_view pass.old).steps ++ made) × Unlocks (dist_view pass.old).number (combine_of self.now) owner.turn result.combined made result.next }
     {
         let Owner { turn, kept } = owner;
         let value = Some(Parcel::Value(kept));

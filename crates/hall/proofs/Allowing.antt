@@ -9,8 +9,8 @@ use Rattle.state_word.specs.Words.{enter_of, announce_of}
 use Rattle.hall.specs.declared.cargo.CargoRule.{Ghosts}
 use Rattle.hall.specs.declared.view.View.{View}
 use Rattle.hall.specs.declared.view.Plan.{Plan}
-use Rattle.hall.specs.declared.view.Kind.{Kind}
-use Rattle.hall.specs.declared.view.Kind.TheVariants as kinds
+use Rattle.hall.specs.declared.view.StepKind.{StepKind}
+use Rattle.hall.specs.declared.view.StepKind.TheVariants as kinds
 use Rattle.hall.specs.declared.view.Standing.{Standing}
 use Rattle.hall.specs.declared.view.Standing.TheVariants.{Away, Inline, Owing, Announcing, Exclusive}
 use Rattle.hall.specs.Views.{standing, after_step, after_look}
@@ -25,7 +25,7 @@ module _ {C P : Type 0} (g : Ghosts C P) (plan : Plan C) (n id : ℕ) (me : Me (
   abbrev place : ℕ
   place = plan.shape.slots + lock
 
-  pub same : (w : View P) (kind : Kind) (x : ℕ) (won : Bool) (y : Standing) (part : P) → w ≡ after_step me.0 kind lock x won y part → Same me (w, me.1)
+  pub same : (w : View P) (kind : StepKind) (x : ℕ) (won : Bool) (y : Standing) (part : P) → w ≡ after_step me.0 kind lock x won y part → Same me (w, me.1)
   same w kind x won y part e = subst (λ (z : View P). Same me (z, me.1)) (sym e) (refl, refl, refl, refl, refl, length-set me.0.standings lock y)
 
   -- a fact of this lock is one of the lock whose word it was

@@ -7,7 +7,7 @@ use mathlib.Core.Option.{some}
 use lib.ListN.{get_elem?}
 use Rattle.atomic_table.proofs.Lists.{set_again, at_map, set_else}
 use Rattle.hall.specs.declared.view.View.{View}
-use Rattle.hall.specs.declared.view.Kind.{Kind}
+use Rattle.hall.specs.declared.view.StepKind.{StepKind}
 use Rattle.lock_model.specs.declared.model.Mode.{Mode}
 use Rattle.hall.specs.declared.view.Standing.{Standing}
 use Rattle.hall.specs.declared.view.Standing.TheVariants.{Away, Inline, Slotted, Undecided, Owing, Upgrade, Exclusive, Announcing}
@@ -23,7 +23,7 @@ use Rattle.hall.specs.declared.view.Shape.{Shape}
 use Rattle.hall.proofs.Locking.{gone}
 
 module _ {P : Type 0} where
-  pub cargo_quiet_at : (views : List (View P)) (id lock place word : ℕ) (v : View P) (kind : Kind) (won : Bool) (y : Standing) → get_elem? views id ≡ some v → mode_of y ≡ mode_of (standing v lock)
+  pub cargo_quiet_at : (views : List (View P)) (id lock place word : ℕ) (v : View P) (kind : StepKind) (won : Bool) (y : Standing) → get_elem? views id ≡ some v → mode_of y ≡ mode_of (standing v lock)
       → map cargo_seat (set views id (after_step_at v kind lock place word won y v.part)) ≡ map cargo_seat views
   cargo_quiet_at views id lock place word v kind won y at same =
       let w : View P = after_step_at v kind lock place word won y v.part in
@@ -31,11 +31,11 @@ module _ {P : Type 0} where
       let seat : cargo_seat w ≡ cargo_seat v = λ i. record { number = v.number; quota = v.quota; modes = modes i; part = v.part } in
       map-set cargo_seat views id w ∙ ap (λ (z : CargoSeat P). set (map cargo_seat views) id z) seat ∙ set_again (map cargo_seat views) id (cargo_seat v) (at_map cargo_seat views id v at)
 
-  pub cargo_quiet : (views : List (View P)) (id lock word : ℕ) (v : View P) (kind : Kind) (won : Bool) (y : Standing) → get_elem? views id ≡ some v → mode_of y ≡ mode_of (standing v lock)
+  pub cargo_quiet : (views : List (View P)) (id lock word : ℕ) (v : View P) (kind : StepKind) (won : Bool) (y : Standing) → get_elem? views id ≡ some v → mode_of y ≡ mode_of (standing v lock)
       → map cargo_seat (set views id (after_step v kind lock word won y v.part)) ≡ map cargo_seat views
   cargo_quiet views id lock word v kind won y at same = cargo_quiet_at views id lock (place_of v lock) word v kind won y at same
 
-  pub cargo_changed_at : (views : List (View P)) (id lock place word : ℕ) (v : View P) (kind : Kind) (won : Bool) (y : Standing) (m : Option Mode) (part : P) → mode_of y ≡ m
+  pub cargo_changed_at : (views : List (View P)) (id lock place word : ℕ) (v : View P) (kind : StepKind) (won : Bool) (y : Standing) (m : Option Mode) (part : P) → mode_of y ≡ m
       → map cargo_seat (set views id (after_step_at v kind lock place word won y part)) ≡ set (map cargo_seat views) id (changed_seat (cargo_seat v) lock m part)
   cargo_changed_at views id lock place word v kind won y m part is =
       let w : View P = after_step_at v kind lock place word won y part in
@@ -43,7 +43,7 @@ module _ {P : Type 0} where
       let seat : cargo_seat w ≡ changed_seat (cargo_seat v) lock m part = λ i. record { number = v.number; quota = v.quota; modes = modes i; part = part } in
       map-set cargo_seat views id w ∙ ap (λ (z : CargoSeat P). set (map cargo_seat views) id z) seat
 
-  pub cargo_changed : (views : List (View P)) (id lock word : ℕ) (v : View P) (kind : Kind) (won : Bool) (y : Standing) (m : Option Mode) (part : P) → mode_of y ≡ m
+  pub cargo_changed : (views : List (View P)) (id lock word : ℕ) (v : View P) (kind : StepKind) (won : Bool) (y : Standing) (m : Option Mode) (part : P) → mode_of y ≡ m
       → map cargo_seat (set views id (after_step v kind lock word won y part)) ≡ set (map cargo_seat views) id (changed_seat (cargo_seat v) lock m part)
   cargo_changed views id lock word v kind won y m part is = cargo_changed_at views id lock (place_of v lock) word v kind won y m part is
 

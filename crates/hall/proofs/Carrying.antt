@@ -8,8 +8,8 @@ use Rattle.atomic_table.proofs.Lists.{at_set, at_map}
 use Rattle.hall.specs.declared.cargo.CargoRule.{Ghosts}
 use Rattle.hall.specs.declared.view.View.{View}
 use Rattle.hall.specs.declared.view.Plan.{Plan}
-use Rattle.hall.specs.declared.view.Kind.{Kind}
-use Rattle.hall.specs.declared.view.Kind.TheVariants.{LoadCargo, StoreCargo, AddCargo}
+use Rattle.hall.specs.declared.view.StepKind.{StepKind}
+use Rattle.hall.specs.declared.view.StepKind.TheVariants.{LoadCargo, StoreCargo, AddCargo}
 use Rattle.hall.specs.Cargo.{Apart, Notes, noted_seat}
 use Rattle.hall.specs.Locks.{Lawful, cover, counts, named_by}
 use Rattle.hall.specs.Views.{footprint, is_away, is_strong, standing, after_note, cargo_place_of}
@@ -29,7 +29,7 @@ use Rattle.hall.proofs.Trailing.{Others_stay, StrongOthers_stay}
 use Rattle.view_sums.specs.Sums.{total-set, total-same, same-refl}
 use Rattle.hall.proofs.Cargoes.{all_apart}
 
-module _ {C P : Type 0} (g : Ghosts C P) (plan : Plan C) (s : State (Unit {0}) (View P)) (h : Holds g plan s) (id k n : ℕ) (v : View P) (kind : Kind) (word used : ℕ) (won : Bool) (part : P) (at : get_elem? s.views id ≡ some v) (lives : 0 < v.span) (inside : k < plan.shape.words)
+module _ {C P : Type 0} (g : Ghosts C P) (plan : Plan C) (s : State (Unit {0}) (View P)) (h : Holds g plan s) (id k n : ℕ) (v : View P) (kind : StepKind) (word used : ℕ) (won : Bool) (part : P) (at : get_elem? s.views id ≡ some v) (lives : 0 < v.span) (inside : k < plan.shape.words)
     (steps : is_join kind ≡ false) where
   abbrev base : ℕ
   base = plan.shape.slots + plan.shape.locks

@@ -21,7 +21,7 @@ use Rattle.hall.specs.Locks.{Tally, weight, Lawful, IsSeated, cover, count, coun
 use Rattle.hall.specs.Views.{pending, footprint, mode_of, is_away, is_outside, is_strong, standing, split_left, split_right, joined_view, spent_view}
 use Rattle.lock_model.specs.Locks.{Has}
 use Rattle.state_word.specs.Words.{units_of}
-use Rattle.hall.specs.declared.view.Kind.TheVariants.{Hold}
+use Rattle.hall.specs.declared.view.StepKind.TheVariants.{Hold}
 use Rattle.hall.specs.Trails.{last_read, Heads, Reasoned, IsTrodden, Others, StrongOthers, Trailed}
 use Rattle.hall.specs.Partings.{Met}
 use Rattle.hall.proofs.Racing.{none_of, reasoned_more, reasoned_join}

@@ -21,8 +21,8 @@ use Rattle.hall.specs.declared.cargo.CargoRule.{Ghosts}
 use Rattle.hall.specs.declared.view.View.{View}
 use Rattle.hall.specs.declared.view.Plan.{Plan}
 use Rattle.hall.specs.declared.view.Shape.{Shape}
-use Rattle.hall.specs.declared.view.Kind.{Kind}
-use Rattle.hall.specs.declared.view.Kind.TheVariants as kinds
+use Rattle.hall.specs.declared.view.StepKind.{StepKind}
+use Rattle.hall.specs.declared.view.StepKind.TheVariants as kinds
 use Rattle.hall.specs.declared.view.Standing.{Standing}
 use Rattle.hall.specs.declared.view.Standing.TheVariants.{Away, Inline, Undecided, Owing, Upgrade, Announcing, Exclusive}
 use Rattle.hall.specs.Cargo.{shared_mode, exclusive_mode, CargoSeat, Lowers, learnt_seat}
@@ -163,14 +163,14 @@ module _ {C P : Type 0} (g : Ghosts C P) (plan : Plan C) (s : State (Unit {0}) (
   acting w a x y was is number span table open_to = acts v.shape.policy a s.views id lock v w at number span lives (λ j u e ne living. numbers_differ plan.shape.seats s.views id j v u h.numbered at e ne lives living)
       (ap (λ (z : Standing). role_after a (role_of z)) was ∙ table ∙ ap (λ (z : Standing). Some (role_of z)) (sym is)) open_to
 
-  pub stands : (kind : Kind) (x : ℕ) (won : Bool) (y : Standing) (part : P) → standing (after_step v kind lock x won y part) lock ≡ y
+  pub stands : (kind : StepKind) (x : ℕ) (won : Bool) (y : Standing) (part : P) → standing (after_step v kind lock x won y part) lock ≡ y
   stands kind x won y part = let f = h.formed id v at in get_or-set_same v.standings lock y Away (subst (λ (k : ℕ). lock < k) (sym (f.wide lives)) near)
 
-  pub stays : (kind : Kind) (x : ℕ) (won : Bool) (y : Standing) (part : P) (k : ℕ) → k ≢ lock → standing (after_step v kind lock x won y part) k ≡ standing v k
+  pub stays : (kind : StepKind) (x : ℕ) (won : Bool) (y : Standing) (part : P) (k : ℕ) → k ≢ lock → standing (after_step v kind lock x won y part) k ≡ standing v k
   stays kind x won y part k ne = get_or-set_other v.standings lock k y Away ne
 
   -- what a step tells that changed nothing
-  pub looks_at : (kind : Kind) → is_join kind ≡ false → word < 18446744073709551616 → (kind ≡ kinds.Hold → units_of word ≢ 0 → Others s.views lock v.number) → Kept word (after_look v kind lock word) × Looks g kind v lock word (after_look v kind lock word)
+  pub looks_at : (kind : StepKind) → is_join kind ≡ false → word < 18446744073709551616 → (kind ≡ kinds.Hold → units_of word ≢ 0 → Others s.views lock v.number) → Kept word (after_look v kind lock word) × Looks g kind v lock word (after_look v kind lock word)
   looks_at kind steps fits held = let kept : Kept word (after_look v kind lock word) = quiet g plan s h id lock v kind at lives near steps held in
       (kept, (refl, roomy g plan s h lock near fits, moment (after_look v kind lock word) word None kept (stays kind word false (standing v lock) v.part) refl refl (still (after_look v kind lock word) refl refl (ap role_of (stands kind word false (standing v lock) v.part)))))
 

@@ -8,13 +8,13 @@ use Rattle.hall.specs.declared.cargo.CargoRule.{Ghosts}
 use Rattle.hall.specs.declared.view.View.{View}
 use Rattle.hall.specs.declared.view.Plan.{Plan}
 use Rattle.hall.specs.declared.view.Shape.{Shape}
-use Rattle.hall.specs.declared.view.Kind.{Kind}
+use Rattle.hall.specs.declared.view.StepKind.{StepKind}
 use Rattle.hall.specs.declared.view.Standing.{Standing}
 use Rattle.hall.specs.declared.view.Standing.TheVariants.{Away, Inline, Slotted, Undecided, Owing, Upgrade, Exclusive, Announcing}
 use Rattle.state_word.specs.Words.{may_defer_of, units_of}
 use Rattle.hall.specs.Locks.{weight, Lawful, IsSeated, cover, count, counts, naming, named_by}
 use Rattle.view_sums.specs.Sums.{total}
-use Rattle.hall.specs.declared.view.Kind.TheVariants.{Hold}
+use Rattle.hall.specs.declared.view.StepKind.TheVariants.{Hold}
 use Rattle.hall.specs.Views.{pending, footprint, is_away, is_outside, is_strong, standing, place_of, after_step, after_step_at}
 use Rattle.hall.specs.Trails.{is_join, Others, StrongOthers}
 use Rattle.hall.specs.Rule.{Holds, Formed, AllFormed, cargo_seat}
@@ -34,7 +34,7 @@ total_lighter f (x ∷ xs) zero a z = omega (arith, z)
 total_lighter f (x ∷ xs) (suc i) a z = omega (arith, total_lighter f xs i a z)
 
 module _ {P : Type 0} where
-  pub formed_moved : (sh : Shape) (views : List (View P)) (id lock place word : ℕ) (v : View P) (kind : Kind) (won : Bool) (y : Standing) (part : P) → AllFormed sh views → get_elem? views id ≡ some v → 0 < v.span → lock < sh.locks
+  pub formed_moved : (sh : Shape) (views : List (View P)) (id lock place word : ℕ) (v : View P) (kind : StepKind) (won : Bool) (y : Standing) (part : P) → AllFormed sh views → get_elem? views id ≡ some v → 0 < v.span → lock < sh.locks
       → IsSeated sh.slots y → total pending (set v.standings lock y) ≤ 1 → AllFormed sh (set views id (after_step_at v kind lock place word won y part))
   formed_moved sh views id lock place word v kind won y part all at lives near seat one j u e = ⊎_elim
       (λ t. let f = all id v at in subst (Formed sh) t.1 record {
@@ -48,7 +48,7 @@ module _ {P : Type 0} where
       })
       (λ t. all j u t.1) (at_set views id j (after_step_at v kind lock place word won y part) u e)
 
-  elsewhere : (v : View P) (kind : Kind) (lock word : ℕ) (won : Bool) (y : Standing) (part : P) (k : ℕ) → k ≢ lock → standing (after_step v kind lock word won y part) k ≡ standing v k
+  elsewhere : (v : View P) (kind : StepKind) (lock word : ℕ) (won : Bool) (y : Standing) (part : P) (k : ℕ) → k ≢ lock → standing (after_step v kind lock word won y part) k ≡ standing v k
   elsewhere v kind lock word won y part k ne = get_or-set_other v.standings lock k y Away ne
 
 -- of the standings with a bit in the word
@@ -113,7 +113,7 @@ module _ {C P : Type 0} (g : Ghosts C P) (plan : Plan C) (s : State (Unit {0}) (
       (footprint t.1.number lock print.0, (t.0, t.1, other.1, print.1), refl, numbers_differ plan.shape.seats s.views id t.0 v t.1 h.numbered at other.1 other.0 lives living))
       (at_set s.views id t.0 (gone v) t.1 t.2)
 
-module _ {C P : Type 0} (g : Ghosts C P) (plan : Plan C) (s : State (Unit {0}) (View P)) (h : Holds g plan s) (id lock n : ℕ) (v : View P) (kind : Kind) (won : Bool) (y : Standing) (part : P) (at : get_elem? s.views id ≡ some v) (lives : 0 < v.span)
+module _ {C P : Type 0} (g : Ghosts C P) (plan : Plan C) (s : State (Unit {0}) (View P)) (h : Holds g plan s) (id lock n : ℕ) (v : View P) (kind : StepKind) (won : Bool) (y : Standing) (part : P) (at : get_elem? s.views id ≡ some v) (lives : 0 < v.span)
     (near : lock < plan.shape.locks) where
   abbrev pub place : ℕ
   place = plan.shape.slots + lock

@@ -15,7 +15,7 @@ use Rattle.hall.specs.Views.{footprint, mode_of, is_away, is_outside, is_strong,
 use Rattle.lock_model.specs.Locks.{Has}
 use Rattle.state_word.specs.Words.{units_of}
 use Rattle.hall.specs.Numbers.{owns}
-use Rattle.hall.specs.declared.view.Kind.TheVariants.{Hold}
+use Rattle.hall.specs.declared.view.StepKind.TheVariants.{Hold}
 use Rattle.hall.specs.Trails.{last_read, Heads, Reasoned, Others, StrongOthers}
 use Rattle.hall.specs.declared.view.StepEntry.{StepEntry}
 use Rattle.hall.specs.declared.view.Footprint.{Footprint}

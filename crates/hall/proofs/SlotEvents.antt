@@ -12,8 +12,8 @@ use Rattle.state_word.specs.Words.{may_defer_of, add_of}
 use Rattle.hall.specs.declared.cargo.CargoRule.{Ghosts}
 use Rattle.hall.specs.declared.view.View.{View}
 use Rattle.hall.specs.declared.view.Plan.{Plan}
-use Rattle.hall.specs.declared.view.Kind.{Kind}
-use Rattle.hall.specs.declared.view.Kind.TheVariants as kinds
+use Rattle.hall.specs.declared.view.StepKind.{StepKind}
+use Rattle.hall.specs.declared.view.StepKind.TheVariants as kinds
 use Rattle.hall.specs.declared.view.Standing.{Standing}
 use Rattle.hall.specs.declared.view.Standing.TheVariants.{Away, Inline, Slotted, Undecided, Owing, Announcing}
 use Rattle.hall.specs.Cargo.{shared_mode, exclusive_mode, Lowers}
@@ -72,7 +72,7 @@ module _ {C P : Type 0} (g : Ghosts C P) (plan : Plan C) (s : State (Unit {0}) (
   few = few_units g plan s h id lock v at
 
   -- a step on a slot from the standing x to y: left to it are the counts at its lock, the slots that are covered, the cargo, and the move
-  slot_steps : (slot new : ℕ) (kind : Kind) (won : Bool) (x y : Standing) (part : P) (a : Option Act) → slot < plan.shape.slots → is_join kind ≡ false → standing v lock ≡ x → new ≤ plan.shape.locks
+  slot_steps : (slot new : ℕ) (kind : StepKind) (won : Bool) (x y : Standing) (part : P) (a : Option Act) → slot < plan.shape.slots → is_join kind ≡ false → standing v lock ≡ x → new ≤ plan.shape.locks
       → ((k : ℕ) → k ≢ lock → naming k new ≡ naming k (get_or s.words slot 0))
       → ((named : ℕ) → named + naming lock (get_or s.words slot 0) ≡ named_by plan.shape.slots lock s.words + naming lock new → Lawful word named (plus others (weight y)))
       → ((k : ℕ) → k ≢ slot → cover k y ≡ cover k x)
@@ -106,7 +106,7 @@ module _ {C P : Type 0} (g : Ghosts C P) (plan : Plan C) (s : State (Unit {0}) (
       )
 
   -- a step that leaves the slot's word, changes no mode and moves nothing
-  slot_quiet : (slot : ℕ) (kind : Kind) (x y : Standing) → slot < plan.shape.slots → is_join kind ≡ false → standing v lock ≡ x → Lawful word (named_by plan.shape.slots lock s.words) (plus others (weight y))
+  slot_quiet : (slot : ℕ) (kind : StepKind) (x y : Standing) → slot < plan.shape.slots → is_join kind ≡ false → standing v lock ≡ x → Lawful word (named_by plan.shape.slots lock s.words) (plus others (weight y))
       → ((k : ℕ) → k ≢ slot → cover k y ≡ cover k x) → (cover slot y ≡ cover slot x) ⊎ (get_or s.words slot 0 ≢ lock + 1)
       → IsSeated plan.shape.slots y → pending y ≤ pending x → mode_of y ≡ mode_of x → role_of y ≡ role_of x
       → let w = after_step_at v kind lock slot (get_or s.words slot 0) false y v.part in KeptAt slot (get_or s.words slot 0) w × SlotStays g kind y v lock slot (get_or s.words slot 0) w
@@ -148,7 +148,7 @@ module _ {C P : Type 0} (g : Ghosts C P) (plan : Plan C) (s : State (Unit {0}) (
       (after_step_at v kinds.PlaceSlot lock slot (get_or s.words slot 0) false x v.part, t.0, t.1)
 
   -- the token goes back to an empty slot
-  clears : (slot : ℕ) (kind : Kind) (x y : Standing) (part : P) (a : Option Act) → slot < plan.shape.slots → is_join kind ≡ false → standing v lock ≡ x → get_or s.words slot 0 ≡ lock + 1
+  clears : (slot : ℕ) (kind : StepKind) (x y : Standing) (part : P) (a : Option Act) → slot < plan.shape.slots → is_join kind ≡ false → standing v lock ≡ x → get_or s.words slot 0 ≡ lock + 1
       → ((named : ℕ) → Lawful word (named + 1) (plus others (weight x)) → Lawful word named (plus others (weight y)))
       → ((k : ℕ) → k ≢ slot → cover k y ≡ cover k x) → IsSeated plan.shape.slots y → pending y ≡ 0
       → (let w = after_step_at v kind lock slot (get_or s.words slot 0) true y part in g.holds plan.cargo (drop (plan.shape.slots + plan.shape.locks) s.words) (map cargo_seat (set s.views id w)) × (after_act (lock_shown v.shape.policy lock s.views) v.number a ≡ Some (lock_shown v.shape.policy lock (set s.views id w))))
@@ -198,7 +198,7 @@ module _ {C P : Type 0} (g : Ghosts C P) (plan : Plan C) (s : State (Unit {0}) (
       (after_step_at v kinds.LeaveSlot lock slot (get_or s.words slot 0) false Inline v.part, t.0, t.1)
 
   -- a sweep that goes on past a slot that doesn't name the lock
-  passes_by : (kind : Kind) (p k : ℕ) (f : Bool) → is_join kind ≡ false → p < plan.shape.slots → standing v lock ≡ Announcing p k f → get_or s.words p 0 ≢ lock + 1
+  passes_by : (kind : StepKind) (p k : ℕ) (f : Bool) → is_join kind ≡ false → p < plan.shape.slots → standing v lock ≡ Announcing p k f → get_or s.words p 0 ≢ lock + 1
       → let w = after_step_at v kind lock p (get_or s.words p 0) false (Announcing (p + 1) k f) v.part in KeptAt p (get_or s.words p 0) w × SlotStays g kind (Announcing (p + 1) k f) v lock p (get_or s.words p 0) w
   passes_by kind p k f steps inside st miss =
       let seat : IsSeated plan.shape.slots (Announcing p k f) = subst (IsSeated plan.shape.slots) st ((h.formed id v at).seated lock) in let low = seat.0 in

@@ -10,7 +10,7 @@ use Rattle.atomic_table.proofs.Lists.{at_set}
 use Rattle.hall.specs.declared.cargo.CargoRule.{Ghosts}
 use Rattle.hall.specs.declared.view.View.{View}
 use Rattle.hall.specs.declared.view.Plan.{Plan}
-use Rattle.hall.specs.declared.view.Kind.{Kind}
+use Rattle.hall.specs.declared.view.StepKind.{StepKind}
 use Rattle.hall.specs.declared.view.Standing.{Standing}
 use Rattle.hall.specs.declared.view.Standing.TheVariants.{Away, Undecided, Announcing}
 use Rattle.state_word.specs.Words.{may_defer_of}
@@ -62,7 +62,7 @@ total_alone f (x ∷ xs) zero a h = let z : f x ≡ 0 = h zero in omega (arith, 
     total_none f (x ∷ xs) h = let z : f x ≡ 0 = h zero in omega (arith, total_none f xs (λ k. h (suc k)))
 total_alone f (x ∷ xs) (suc i) a h = let z : f x ≡ 0 = h zero in omega (arith, total_alone f xs i a (λ k. h (suc k)))
 
-module _ {C P : Type 0} (g : Ghosts C P) (plan : Plan C) (s : State (Unit {0}) (View P)) (h : Holds g plan s) (id lock slot n : ℕ) (v : View P) (kind : Kind) (won : Bool) (y : Standing) (part : P) (at : get_elem? s.views id ≡ some v) (lives : 0 < v.span)
+module _ {C P : Type 0} (g : Ghosts C P) (plan : Plan C) (s : State (Unit {0}) (View P)) (h : Holds g plan s) (id lock slot n : ℕ) (v : View P) (kind : StepKind) (won : Bool) (y : Standing) (part : P) (at : get_elem? s.views id ≡ some v) (lives : 0 < v.span)
     (near : lock < plan.shape.locks) (inside : slot < plan.shape.slots) where
   abbrev found : ℕ
   found = get_or s.words slot 0

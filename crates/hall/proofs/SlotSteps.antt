@@ -10,8 +10,8 @@ use Rattle.state_word.specs.Words.{may_defer_of}
 use Rattle.hall.specs.declared.cargo.CargoRule.{Ghosts}
 use Rattle.hall.specs.declared.view.View.{View}
 use Rattle.hall.specs.declared.view.Plan.{Plan}
-use Rattle.hall.specs.declared.view.Kind.{Kind}
-use Rattle.hall.specs.declared.view.Kind.TheVariants as kinds
+use Rattle.hall.specs.declared.view.StepKind.{StepKind}
+use Rattle.hall.specs.declared.view.StepKind.TheVariants as kinds
 use Rattle.hall.specs.declared.view.Standing.{Standing}
 use Rattle.hall.specs.declared.view.Standing.TheVariants.{Away, Inline, Slotted, Undecided, Owing, Announcing}
 use Rattle.hall.specs.Views.{standing, after_step_at}
@@ -23,7 +23,7 @@ use Rattle.hall.proofs.Allowing.{same, told}
 use Rattle.hall.proofs.SlotEvents.{placed, found_taken, checked, withdrawn, owing, left_slot, inlined, looked_at, picked_up, found_cleared, added_hand}
 
 module _ {C P : Type 0} (g : Ghosts C P) (plan : Plan C) (n id : ℕ) (me : Me (Unit {0}) (View P)) (lock slot i : ℕ) (is : i ≡ slot) (shape : me.0.shape ≡ plan.shape) (lives : 0 < me.0.span) (near : lock < plan.shape.locks) (inside : slot < plan.shape.slots) where
-  same_at : (w : View P) (kind : Kind) (x : ℕ) (won : Bool) (y : Standing) (part : P) → w ≡ after_step_at me.0 kind lock slot x won y part → Same me (w, me.1)
+  same_at : (w : View P) (kind : StepKind) (x : ℕ) (won : Bool) (y : Standing) (part : P) → w ≡ after_step_at me.0 kind lock slot x won y part → Same me (w, me.1)
   same_at w kind x won y part e = subst (λ (z : View P). Same me (z, me.1)) (sym e) (refl, refl, refl, refl, refl, length-set me.0.standings lock y)
 
   -- a fact of this lock is one of the lock that the step names

@@ -6,7 +6,7 @@ use Rattle.atomic_table.proofs.Lists.{at_set}
 use Rattle.hall.specs.declared.view.View.{View}
 use Rattle.hall.specs.declared.view.Shape.{Shape}
 use Rattle.hall.specs.declared.view.Footprint.{Footprint}
-use Rattle.hall.specs.declared.view.Kind.{Kind}
+use Rattle.hall.specs.declared.view.StepKind.{StepKind}
 use Rattle.hall.specs.declared.view.StepEntry.{StepEntry}
 use Rattle.hall.specs.declared.view.Standing.{Standing}
 use Rattle.hall.specs.Views.{footprint, is_away, is_strong, standing, after_step_at}
@@ -18,7 +18,7 @@ use Rattle.hall.proofs.Racing.{reasoned_more}
 use Rattle.hall.proofs.Trailing.{Others_stay, StrongOthers_stay, trail_grows, present_now, strongly_now, trodden_now}
 use Rattle.hall.specs.Rule.{AllFormed}
 
-module _ {P : Type 0} (sh : Shape) (words : List ℕ) (views : List (View P)) (id lock slot n word : ℕ) (v : View P) (kind : Kind) (won : Bool) (y : Standing) (part : P) (tr : Trailed sh words views) (formed : AllFormed sh views) (at : get_elem? views id ≡ some v)
+module _ {P : Type 0} (sh : Shape) (words : List ℕ) (views : List (View P)) (id lock slot n word : ℕ) (v : View P) (kind : StepKind) (won : Bool) (y : Standing) (part : P) (tr : Trailed sh words views) (formed : AllFormed sh views) (at : get_elem? views id ≡ some v)
     (lives : 0 < v.span) (near : lock < sh.locks) (inside : slot < sh.slots) (steps : is_join kind ≡ false) where
   abbrev after : View P
   after = after_step_at v kind lock slot word won y part

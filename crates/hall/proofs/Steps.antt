@@ -9,8 +9,8 @@ use Rattle.hall.specs.declared.cargo.CargoRule.{Ghosts}
 use Rattle.hall.specs.declared.view.View.{View}
 use Rattle.hall.specs.declared.view.Plan.{Plan}
 use Rattle.hall.specs.declared.view.Shape.{Shape}
-use Rattle.hall.specs.declared.view.Kind.{Kind}
-use Rattle.hall.specs.declared.view.Kind.TheVariants.{Hold}
+use Rattle.hall.specs.declared.view.StepKind.{StepKind}
+use Rattle.hall.specs.declared.view.StepKind.TheVariants.{Hold}
 use Rattle.lock_model.specs.declared.model.Mode.{Mode}
 use Rattle.hall.specs.declared.view.Standing.{Standing}
 use Rattle.hall.specs.declared.view.Standing.TheVariants.{Away}
@@ -43,7 +43,7 @@ module _ {C P : Type 0} (g : Ghosts C P) (plan : Plan C) where
   Goes s i id me then x = (w : View P) × (a : Act (Unit {0})) × Valid s.homes me.1 a × Holds g plan (stepped s i x id me.1 w a) × then (get_or s.words i 0) (w, carried_after me.1 a)
 
   -- a step that changes nothing but the steps and the trail
-  pub quiet : (s : St) (h : Holds g plan s) (id lock : ℕ) (v : View P) (kind : Kind) → get_elem? s.views id ≡ some v → 0 < v.span → lock < plan.shape.locks → is_join kind ≡ false
+  pub quiet : (s : St) (h : Holds g plan s) (id lock : ℕ) (v : View P) (kind : StepKind) → get_elem? s.views id ≡ some v → 0 < v.span → lock < plan.shape.locks → is_join kind ≡ false
       → (kind ≡ Hold → units_of (get_or s.words (plan.shape.slots + lock) 0) ≢ 0 → Others s.views lock v.number)
       → Holds g plan record { words = set s.words (plan.shape.slots + lock) (get_or s.words (plan.shape.slots + lock) 0); homes = s.homes; views = set s.views id (after_look v kind lock (get_or s.words (plan.shape.slots + lock) 0)) }
   quiet s h id lock v kind at lives near steps held =
@@ -85,7 +85,7 @@ module _ {C P : Type 0} (g : Ghosts C P) (plan : Plan C) where
       )
 
   -- a step that leaves the standing y at its lock: left to it are the counts there, the slots that are covered, and the cargo
-  pub changes : (s : St) (h : Holds g plan s) (id lock new : ℕ) (v : View P) (kind : Kind) (y : Standing) (part : P) → get_elem? s.views id ≡ some v → 0 < v.span → lock < plan.shape.locks → is_join kind ≡ false → is_away (standing v lock) && is_away y ≡ false
+  pub changes : (s : St) (h : Holds g plan s) (id lock new : ℕ) (v : View P) (kind : StepKind) (y : Standing) (part : P) → get_elem? s.views id ≡ some v → 0 < v.span → lock < plan.shape.locks → is_join kind ≡ false → is_away (standing v lock) && is_away y ≡ false
       → ((named : ℕ) (o : Tally) → (o.plain + o.raised ≡ 0 → o.hand ≡ 0) → units o < 1073741824
       → (may_defer_of (get_or s.words (plan.shape.slots + lock) 0) ≡ 0 → o.plain + o.raised ≡ 0 → Done plan.shape.slots (standing v lock) → named ≤ o.undecided + (weight (standing v lock)).undecided)
       → Lawful (get_or s.words (plan.shape.slots + lock) 0) named (plus o (weight (standing v lock))) → Lawful new named (plus o (weight y)))
@@ -105,7 +105,7 @@ module _ {C P : Type 0} (g : Ghosts C P) (plan : Plan C) where
       seat (omega (arith, total_lighter pending v.standings lock y calm, (h.formed id v at).one_pending)) loads
 
   -- the cargo where a mode is gained
-  pub gains_at : (s : St) (h : Holds g plan s) (id lock place word : ℕ) (v : View P) (kind : Kind) (won : Bool) (y : Standing) (m : Option Mode) → get_elem? s.views id ≡ some v → mode_of (standing v lock) ≡ None → mode_of y ≡ m → m ≢ None → Compatible (map cargo_seat s.views) id lock m
+  pub gains_at : (s : St) (h : Holds g plan s) (id lock place word : ℕ) (v : View P) (kind : StepKind) (won : Bool) (y : Standing) (m : Option Mode) → get_elem? s.views id ≡ some v → mode_of (standing v lock) ≡ None → mode_of y ≡ m → m ≢ None → Compatible (map cargo_seat s.views) id lock m
       → (part : P) × g.gains lock (drop (plan.shape.slots + plan.shape.locks) s.words) v.part part
       × g.holds plan.cargo (drop (plan.shape.slots + plan.shape.locks) s.words) (map cargo_seat (set s.views id (after_step_at v kind lock place word won y part)))
   gains_at s h id lock place word v kind won y m at free is some' fits =
@@ -113,13 +113,13 @@ module _ {C P : Type 0} (g : Ghosts C P) (plan : Plan C) where
       let t = g.gain_keeps plan.cargo ws (map cargo_seat s.views) id lock m (cargo_seat v) h.cargo (at_map cargo_seat s.views id v at) (mode_at v lock ∙ free) some' fits in
       (t.0, t.1, subst (g.holds plan.cargo ws) (sym (cargo_changed_at s.views id lock place word v kind won y m t.0 is)) t.2)
 
-  pub gains : (s : St) (h : Holds g plan s) (id lock word : ℕ) (v : View P) (kind : Kind) (y : Standing) (m : Option Mode) → get_elem? s.views id ≡ some v → mode_of (standing v lock) ≡ None → mode_of y ≡ m → m ≢ None → Compatible (map cargo_seat s.views) id lock m
+  pub gains : (s : St) (h : Holds g plan s) (id lock word : ℕ) (v : View P) (kind : StepKind) (y : Standing) (m : Option Mode) → get_elem? s.views id ≡ some v → mode_of (standing v lock) ≡ None → mode_of y ≡ m → m ≢ None → Compatible (map cargo_seat s.views) id lock m
       → (part : P) × g.gains lock (drop (plan.shape.slots + plan.shape.locks) s.words) v.part part
       × g.holds plan.cargo (drop (plan.shape.slots + plan.shape.locks) s.words) (map cargo_seat (set s.views id (after_step v kind lock word true y part)))
   gains s h id lock word v kind y m at free is some' fits = gains_at s h id lock (place_of v lock) word v kind true y m at free is some' fits
 
   -- the cargo where upgrade is raised to exclusive
-  pub raises : (s : St) (h : Holds g plan s) (id lock word : ℕ) (v : View P) (kind : Kind) (y : Standing) → get_elem? s.views id ≡ some v → mode_of (standing v lock) ≡ upgrade_mode → mode_of y ≡ exclusive_mode → Compatible (map cargo_seat s.views) id lock exclusive_mode
+  pub raises : (s : St) (h : Holds g plan s) (id lock word : ℕ) (v : View P) (kind : StepKind) (y : Standing) → get_elem? s.views id ≡ some v → mode_of (standing v lock) ≡ upgrade_mode → mode_of y ≡ exclusive_mode → Compatible (map cargo_seat s.views) id lock exclusive_mode
       → g.holds plan.cargo (drop (plan.shape.slots + plan.shape.locks) s.words) (map cargo_seat (set s.views id (after_step v kind lock word true y v.part)))
   raises s h id lock word v kind y at was is fits =
       let ws : List ℕ = drop (plan.shape.slots + plan.shape.locks) s.words in
@@ -127,22 +127,22 @@ module _ {C P : Type 0} (g : Ghosts C P) (plan : Plan C) where
       (g.raise_keeps plan.cargo ws (map cargo_seat s.views) id lock (cargo_seat v) h.cargo (at_map cargo_seat s.views id v at) (mode_at v lock ∙ was) fits)
 
   -- the cargo where a mode is lost
-  pub loses_at : (s : St) (h : Holds g plan s) (id lock place word : ℕ) (v : View P) (kind : Kind) (won : Bool) (y : Standing) (m : Option Mode) → get_elem? s.views id ≡ some v → mode_of y ≡ m → Lowers (mode_of (standing v lock)) m → (mode_of (standing v lock) ≡ exclusive_mode → g.settled lock v.part)
+  pub loses_at : (s : St) (h : Holds g plan s) (id lock place word : ℕ) (v : View P) (kind : StepKind) (won : Bool) (y : Standing) (m : Option Mode) → get_elem? s.views id ≡ some v → mode_of y ≡ m → Lowers (mode_of (standing v lock)) m → (mode_of (standing v lock) ≡ exclusive_mode → g.settled lock v.part)
       → g.holds plan.cargo (drop (plan.shape.slots + plan.shape.locks) s.words) (map cargo_seat (set s.views id (after_step_at v kind lock place word won y (g.lowered lock m v.part))))
   loses_at s h id lock place word v kind won y m at is down calm =
       let ws : List ℕ = drop (plan.shape.slots + plan.shape.locks) s.words in
       subst (g.holds plan.cargo ws) (sym (cargo_changed_at s.views id lock place word v kind won y m (g.lowered lock m v.part) is))
       (g.lower_keeps plan.cargo ws (map cargo_seat s.views) id lock m (cargo_seat v) h.cargo (at_map cargo_seat s.views id v at) (subst (λ (z : Option Mode). Lowers z m) (sym (mode_at v lock)) down) (λ e. calm (sym (mode_at v lock) ∙ e)))
 
-  pub loses : (s : St) (h : Holds g plan s) (id lock word : ℕ) (v : View P) (kind : Kind) (y : Standing) (m : Option Mode) → get_elem? s.views id ≡ some v → mode_of y ≡ m → Lowers (mode_of (standing v lock)) m → (mode_of (standing v lock) ≡ exclusive_mode → g.settled lock v.part)
+  pub loses : (s : St) (h : Holds g plan s) (id lock word : ℕ) (v : View P) (kind : StepKind) (y : Standing) (m : Option Mode) → get_elem? s.views id ≡ some v → mode_of y ≡ m → Lowers (mode_of (standing v lock)) m → (mode_of (standing v lock) ≡ exclusive_mode → g.settled lock v.part)
       → g.holds plan.cargo (drop (plan.shape.slots + plan.shape.locks) s.words) (map cargo_seat (set s.views id (after_step v kind lock word true y (g.lowered lock m v.part))))
   loses s h id lock word v kind y m at is down calm = loses_at s h id lock (place_of v lock) word v kind true y m at is down calm
 
   -- the cargo where no mode is gained or lost
-  pub rests_at : (s : St) (h : Holds g plan s) (id lock place word : ℕ) (v : View P) (kind : Kind) (won : Bool) (y : Standing) → get_elem? s.views id ≡ some v → mode_of y ≡ mode_of (standing v lock)
+  pub rests_at : (s : St) (h : Holds g plan s) (id lock place word : ℕ) (v : View P) (kind : StepKind) (won : Bool) (y : Standing) → get_elem? s.views id ≡ some v → mode_of y ≡ mode_of (standing v lock)
       → g.holds plan.cargo (drop (plan.shape.slots + plan.shape.locks) s.words) (map cargo_seat (set s.views id (after_step_at v kind lock place word won y v.part)))
   rests_at s h id lock place word v kind won y at same = subst (g.holds plan.cargo (drop (plan.shape.slots + plan.shape.locks) s.words)) (sym (cargo_quiet_at s.views id lock place word v kind won y at same)) h.cargo
 
-  pub rests : (s : St) (h : Holds g plan s) (id lock word : ℕ) (v : View P) (kind : Kind) (y : Standing) → get_elem? s.views id ≡ some v → mode_of y ≡ mode_of (standing v lock)
+  pub rests : (s : St) (h : Holds g plan s) (id lock word : ℕ) (v : View P) (kind : StepKind) (y : Standing) → get_elem? s.views id ≡ some v → mode_of y ≡ mode_of (standing v lock)
       → g.holds plan.cargo (drop (plan.shape.slots + plan.shape.locks) s.words) (map cargo_seat (set s.views id (after_step v kind lock word true y v.part)))
   rests s h id lock word v kind y at same = rests_at s h id lock (place_of v lock) word v kind true y at same

@@ -9,7 +9,7 @@ use Rattle.atomic_table.proofs.Lists.{at_set, set_here, set_else}
 use Rattle.hall.specs.declared.view.View.{View}
 use Rattle.hall.specs.declared.view.Shape.{Shape}
 use Rattle.hall.specs.declared.view.Footprint.{Footprint}
-use Rattle.hall.specs.declared.view.Kind.{Kind}
+use Rattle.hall.specs.declared.view.StepKind.{StepKind}
 use Rattle.hall.specs.declared.view.StepEntry.{StepEntry}
 use Rattle.hall.specs.declared.view.Standing.{Standing}
 use Rattle.hall.specs.declared.view.Standing.TheVariants.{Away}
@@ -17,7 +17,7 @@ use Rattle.hall.specs.Views.{footprint, is_away, is_outside, is_strong, footprin
 use Rattle.lock_model.specs.Locks.{Has}
 use Rattle.state_word.specs.Words.{units_of}
 use Rattle.view_sums.specs.Sums.{same, same-refl}
-use Rattle.hall.specs.declared.view.Kind.TheVariants.{Hold}
+use Rattle.hall.specs.declared.view.StepKind.TheVariants.{Hold}
 use Rattle.hall.specs.Numbers.{owns}
 use Rattle.hall.specs.Trails.{is_join, last_read, Heads, Reasoned, IsTrodden, Others, StrongOthers, Trailed}
 use Rattle.hall.proofs.Racing.{reasoned_more}
@@ -62,7 +62,7 @@ module _ {P : Type 0} where
   StrongOthers_stay views id v w lock n at grows h = (h.0, IsTrodden_stays views id v w h.0 at grows h.1, h.2, h.3, h.4)
 
 -- what a step for a lock leaves in the trail, whatever word it was made on
-module _ {P : Type 0} (sh : Shape) (words : List ℕ) (views : List (View P)) (id lock place word : ℕ) (v : View P) (kind : Kind) (won : Bool) (y : Standing) (part : P) (tr : Trailed sh words views) (formed : AllFormed sh views) (at : get_elem? views id ≡ some v) (lives : 0 < v.span)
+module _ {P : Type 0} (sh : Shape) (words : List ℕ) (views : List (View P)) (id lock place word : ℕ) (v : View P) (kind : StepKind) (won : Bool) (y : Standing) (part : P) (tr : Trailed sh words views) (formed : AllFormed sh views) (at : get_elem? views id ≡ some v) (lives : 0 < v.span)
     (near : lock < sh.locks) where
   abbrev pub stepped : View P
   stepped = after_step_at v kind lock place word won y part
@@ -99,7 +99,7 @@ module _ {P : Type 0} (sh : Shape) (words : List ℕ) (views : List (View P)) (i
         (left_or_old (is_away (standing v lock) && is_away y) (footprint v.number lock (is_strong (standing v lock) || is_strong y)) m v.trail has),
   )
 
-module _ {P : Type 0} (sh : Shape) (words : List ℕ) (views : List (View P)) (id lock n : ℕ) (v : View P) (kind : Kind) (won : Bool) (y : Standing) (part : P) (tr : Trailed sh words views) (formed : AllFormed sh views) (at : get_elem? views id ≡ some v)
+module _ {P : Type 0} (sh : Shape) (words : List ℕ) (views : List (View P)) (id lock n : ℕ) (v : View P) (kind : StepKind) (won : Bool) (y : Standing) (part : P) (tr : Trailed sh words views) (formed : AllFormed sh views) (at : get_elem? views id ≡ some v)
     (lives : 0 < v.span) (near : lock < sh.locks) (inside : sh.slots + lock < length words) (steps : is_join kind ≡ false) (kept : won ≡ false → n ≡ get_or words (sh.slots + lock) 0)
     (shown : n ≢ get_or words (sh.slots + lock) 0 → is_away (standing v lock) && is_away y ≡ false)
     (cause : is_outside (standing v lock) ≡ true → get_or words (sh.slots + lock) 0 / 2 % 8 ≢ 0 → StrongOthers views lock v.number)

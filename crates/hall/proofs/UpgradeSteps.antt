@@ -9,7 +9,7 @@ use Rattle.state_word.specs.Words.{announce_of, up_of}
 use Rattle.hall.specs.declared.cargo.CargoRule.{Ghosts}
 use Rattle.hall.specs.declared.view.View.{View}
 use Rattle.hall.specs.declared.view.Plan.{Plan}
-use Rattle.hall.specs.declared.view.Kind.TheVariants as kinds
+use Rattle.hall.specs.declared.view.StepKind.TheVariants as kinds
 use Rattle.hall.specs.declared.view.Standing.TheVariants.{Away, Inline, Upgrade, Announcing, Exclusive}
 use Rattle.hall.specs.Cargo.{shared_mode, upgrade_mode}
 use Rattle.hall.specs.Views.{standing, after_look}

@@ -12,8 +12,8 @@ use Rattle.state_word.specs.Words.{may_defer_of, announce_of, retract_of, up_of,
 use Rattle.hall.specs.declared.cargo.CargoRule.{Ghosts}
 use Rattle.hall.specs.declared.view.View.{View}
 use Rattle.hall.specs.declared.view.Plan.{Plan}
-use Rattle.hall.specs.declared.view.Kind.{Kind}
-use Rattle.hall.specs.declared.view.Kind.TheVariants as kinds
+use Rattle.hall.specs.declared.view.StepKind.{StepKind}
+use Rattle.hall.specs.declared.view.StepKind.TheVariants as kinds
 use Rattle.hall.specs.declared.view.Standing.{Standing}
 use Rattle.hall.specs.declared.view.Standing.TheVariants.{Away, Inline, Upgrade, Announcing, Exclusive}
 use Rattle.hall.specs.Cargo.{shared_mode, upgrade_mode, exclusive_mode, Lowers}
@@ -64,7 +64,7 @@ module _ {C P : Type 0} (g : Ghosts C P) (plan : Plan C) (s : State (Unit {0}) (
   none_of f zero j u e ne = each_none g plan s h id lock v at lives shape near f zero j u e ne
 
   -- a step from the standing x to y that is an act of the abstract lock: left to it are the counts at its lock, the slots that are covered, the cargo, and that nobody else bars the act
-  pub makes : (kind : Kind) (x y : Standing) (part : P) (new : ℕ) (a : Act) → is_join kind ≡ false → standing v lock ≡ x → is_away x && is_away y ≡ false
+  pub makes : (kind : StepKind) (x y : Standing) (part : P) (new : ℕ) (a : Act) → is_join kind ≡ false → standing v lock ≡ x → is_away x && is_away y ≡ false
       → ((named : ℕ) (o : Tally) → (o.plain + o.raised ≡ 0 → o.hand ≡ 0) → units o < 1073741824 → (may_defer_of word ≡ 0 → o.plain + o.raised ≡ 0 → Done plan.shape.slots x → named ≤ o.undecided + (weight x).undecided) → Lawful word named (plus o (weight x)) → Lawful new named (plus o (weight y)))
       → ((k ns old cov : ℕ) → k < plan.shape.slots → ns ≤ 1 → cov + cover k x ≡ old + cover k y → ns ≤ may_defer_of word + old → ns ≤ may_defer_of new + cov)
       → IsSeated plan.shape.slots y → pending y ≡ 0

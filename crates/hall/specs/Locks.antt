@@ -1,5 +1,6 @@
 -- What a lock's state word and the slots say of the passes' standings at the lock.
 use Rattle.std.specs.Prelude.{◌≡◌, ℕ, zero, suc, ◌+◌, ◌*◌, ◌%◌, ◌<◌, ◌≤◌, cond, eqb, nat_lt, List, slice_index}
+use Rattle.state_word.specs.declared.TheConstants.{UPGRADE, BEGUN, HELD, ONE, WORDS}
 use Rattle.state_word.specs.Words.{may_defer_of}
 use Rattle.view_sums.specs.Sums.{total}
 use Rattle.hall.specs.declared.view.View.{View}
@@ -35,17 +36,17 @@ weight (Announcing p h f) = tally 0 0 0 0 (cond f 0 1) (cond f 1 0) 0 h
 -- The word of a lock with these counts, where so many slots name it: the four bits, and the inline count together with the hands and the slots is the number of readers.
 -- It is taken round 2^64, so that the count may be negative; the word itself is one of 64 bits.
 pub record Lawful (w named : ℕ) (t : Tally) : Type 0 where
-  pub bounded : w < 18446744073709551616
+  pub bounded : w < WORDS
   pub may : ℕ
   pub bit : may ≤ 1
-  pub shows : (w + 4294967296 * (t.hand + named)) % 18446744073709551616 ≡ may + 2 * (t.upgrade + t.raised) + 4 * (t.plain + t.raised) + 8 * t.exclusive + 4294967296 * (t.shared + t.undecided + t.owing)
+  pub shows : (w + ONE * (t.hand + named)) % WORDS ≡ may + UPGRADE * (t.upgrade + t.raised) + BEGUN * (t.plain + t.raised) + HELD * t.exclusive + ONE * (t.shared + t.undecided + t.owing)
   -- at most one seat is strong
   pub alone : t.upgrade + t.plain + t.raised + t.exclusive ≤ 1
   -- an exclusive holder stands beside no reader
   pub nobody : 1 ≤ t.exclusive → t.shared + t.owing ≡ 0
   -- no reader defers beside an announced or exclusive writer
   pub barred : 1 ≤ t.plain + t.raised + t.exclusive → may ≡ 0
-  pub drained : 1 ≤ t.exclusive → w ≡ 8
+  pub drained : 1 ≤ t.exclusive → w ≡ HELD
 
 -- f 0 + .. + f (n - 1)
 abbrev pub below : (ℕ → ℕ) → ℕ → ℕ

@@ -5,11 +5,12 @@ use Rattle.lock_model.specs.declared.model.Policy.{Policy}
 use Rattle.lock_model.specs.declared.model.Policy.TheVariants.{WritePriority, ReadPriority}
 use Rattle.lock_model.specs.declared.model.Act.{Act}
 use Rattle.lock_model.specs.declared.model.Act.TheVariants.{EnterShared, Announce, TakeExclusive, Retract, Leave}
+use Rattle.state_word.specs.declared.TheConstants.{HELD, MOST_COUNTED}
 use Rattle.state_word.specs.Words.{upgrade_of, begun_of, held_of, units_of, enter_of, lower_of, announce_of, retract_of}
 use Rattle.hall.specs.declared.cargo.CargoRule.{Ghosts}
 use Rattle.hall.specs.declared.view.View.{View}
-use Rattle.hall.specs.declared.view.Kind.{Kind}
-use Rattle.hall.specs.declared.view.Kind.TheVariants as kinds
+use Rattle.hall.specs.declared.view.StepKind.{StepKind}
+use Rattle.hall.specs.declared.view.StepKind.TheVariants as kinds
 use Rattle.hall.specs.declared.view.Standing.{Standing}
 use Rattle.hall.specs.declared.view.Standing.TheVariants.{Away, Inline, Slotted, Undecided, Owing, Upgrade, Exclusive, Announcing}
 use Rattle.hall.specs.Views.{standing, after_look, after_step, after_note, cargo_place_of}
@@ -30,7 +31,7 @@ conflicts_for_finishing w = not (units_of w == 0)
 
 -- the count is below 2^31 - 1, so that one more reader can be counted
 abbrev pub HasRoom : ℕ → Type 0
-HasRoom w = units_of w ≢ 2147483647
+HasRoom w = units_of w ≢ MOST_COUNTED
 
 module _ {P : Type 0} where
   -- a step leaves what only a split or a join changes
@@ -47,7 +48,7 @@ module _ {P : Type 0} where
 
 module _ {C P : Type 0} (g : Ghosts C P) where
   -- a step that found this word, changed nothing and moved nothing
-  abbrev pub Looks : Kind → View P → ℕ → ℕ → View P → Type 0
+  abbrev pub Looks : StepKind → View P → ℕ → ℕ → View P → Type 0
   Looks kind v lock found w = (w ≡ after_look v kind lock found) × HasRoom found × Moment g v w lock found found None
 
   abbrev pub Loads : View P → ℕ → ℕ → View P → Type 0
@@ -58,7 +59,7 @@ module _ {C P : Type 0} (g : Ghosts C P) where
   LoadsNoted becomes v lock found w = (ws : List ℕ) × (part : P) × becomes ws found v.part part × (w ≡ after_step v kinds.Load lock found false (standing v lock) part) × HasRoom found × (m : Moment g v w lock found found None) × (cargo_words g m.plan m.state ≡ ws)
 
   -- a mode was gained: the cargo words behind the lock were noted in the part
-  abbrev pub Gains : Kind → Standing → View P → ℕ → ℕ → View P → Type 0
+  abbrev pub Gains : StepKind → Standing → View P → ℕ → ℕ → View P → Type 0
   Gains kind y v lock found w = (ws : List ℕ) × (part : P) × g.gains lock ws v.part part × (w ≡ after_step v kind lock found true y part)
 
   -- a reader entered
@@ -114,7 +115,7 @@ module _ {C P : Type 0} (g : Ghosts C P) where
 
   -- an exclusive holder left
   abbrev pub Releases : View P → ℕ → ℕ → View P → Type 0
-  Releases v lock found w = (found ≡ 8) × (w ≡ after_step v kinds.Release lock 8 true Away (g.lowered lock None v.part)) × Moment g v w lock 8 0 (Some Leave)
+  Releases v lock found w = (found ≡ HELD) × (w ≡ after_step v kinds.Release lock HELD true Away (g.lowered lock None v.part)) × Moment g v w lock HELD 0 (Some Leave)
 
   -- a load of a cargo word: the note is of the cargo's words of its moment
   abbrev pub LoadsWord : (List ℕ → ℕ → P → P → Type 0) → View P → ℕ → ℕ → View P → Type 0

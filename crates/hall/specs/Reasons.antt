@@ -14,8 +14,8 @@ use Rattle.hall.specs.declared.cargo.CargoRule.{Ghosts}
 use Rattle.hall.specs.declared.view.View.{View}
 use Rattle.hall.specs.declared.view.Plan.{Plan}
 use Rattle.hall.specs.declared.view.Shape.{Shape}
-use Rattle.hall.specs.declared.view.Kind.{Kind}
-use Rattle.hall.specs.declared.view.Kind.TheVariants.{Load, Hold}
+use Rattle.hall.specs.declared.view.StepKind.{StepKind}
+use Rattle.hall.specs.declared.view.StepKind.TheVariants.{Load, Hold}
 use Rattle.hall.specs.Moves.{Moment}
 use Rattle.hall.specs.Plays.{conflicts_for_shared, conflicts_for_announcing}
 use Rattle.hall.specs.Rule.{Holds}
@@ -64,7 +64,7 @@ announcing_bits w h zeroed = ⊎_elim (λ a. let one = is_set (upgrade_of w) a i
     (λ b. ⊎_elim (λ c. let one = is_set (begun_of w) c in omega arith) (λ c. let one = is_set (held_of w) c in omega arith) (either_on (begun_of w == 1) (held_of w == 1) b))
     (either_on (upgrade_of w == 1) ((begun_of w == 1) || (held_of w == 1)) h)
 
-module _ {C P : Type 0} (g : Ghosts C P) (v w : View P) (lock found left : ℕ) (kind : Kind) (act : Option Act) (m : Moment g v w lock found left act) (is : w ≡ after_look v kind lock found) where
+module _ {C P : Type 0} (g : Ghosts C P) (v w : View P) (lock found left : ℕ) (kind : StepKind) (act : Option Act) (m : Moment g v w lock found left act) (is : w ≡ after_look v kind lock found) where
   place_is : v.shape.slots + lock ≡ m.plan.shape.slots + lock
   place_is = ap (λ (z : Shape). z.slots + lock) (sym m.shape)
 

@@ -14,7 +14,7 @@ use Rattle.hall.specs.declared.view.View.{View}
 use Rattle.hall.specs.declared.view.Plan.{Plan}
 use Rattle.hall.specs.declared.view.Shape.{Shape}
 use Rattle.hall.specs.declared.view.StepEntry.{StepEntry}
-use Rattle.hall.specs.declared.view.Kind.TheVariants.{Hold}
+use Rattle.hall.specs.declared.view.StepKind.TheVariants.{Hold}
 use Rattle.hall.specs.NumberLaws.{owns_le, within-above}
 use Rattle.hall.specs.Numbers.{covers, owns, Numbered}
 use Rattle.hall.specs.Plays.{conflicts_for_shared, conflicts_for_announcing}

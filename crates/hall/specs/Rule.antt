@@ -4,6 +4,8 @@ use mathlib.Core.Option.{some}
 use lib.ListN.{get_elem?}
 use Rattle.atomic_table.specs.Table.{State}
 use Rattle.view_sums.specs.Sums.{total}
+use Rattle.state_word.specs.declared.TheConstants.{WORDS}
+use Rattle.hall.specs.declared.making.TheConstants.{MOST_SEATS, MOST_SLOTS}
 use Rattle.hall.specs.declared.cargo.CargoRule.{Ghosts}
 use Rattle.hall.specs.declared.view.View.{View}
 use Rattle.hall.specs.declared.view.Plan.{Plan}
@@ -41,10 +43,10 @@ module _ {C P : Type 0} (g : Ghosts C P) where
   pub record Holds (plan : Plan C) (s : State (Unit {0}) (View P)) : Type 0 where
     pub size : length s.words ≡ plan.shape.slots + plan.shape.locks + plan.shape.words
     pub some_slot : 0 < plan.shape.slots
-    pub few_slots : plan.shape.slots ≤ 256
-    pub few : plan.shape.seats ≤ 1048576
+    pub few_slots : plan.shape.slots ≤ MOST_SLOTS
+    pub few : plan.shape.seats ≤ MOST_SEATS
     pub rationed : total (λ v. v.quota) s.views ≤ plan.quota
-    pub counted : plan.quota < 18446744073709551616
+    pub counted : plan.quota < WORDS
     pub formed : AllFormed plan.shape s.views
     pub numbered : Numbered plan.shape.seats s.views
     pub lawful : AllLawful plan.shape s.words s.views

@@ -12,7 +12,9 @@ use Rattle.lock_model.specs.declared.model.Role.TheVariants.{Outside, Announces}
 use Rattle.lock_model.specs.declared.model.Role.TheVariants as role
 use Rattle.lock_model.specs.declared.model.Mode.TheVariants.{Shared}
 use Rattle.lock_model.specs.declared.model.Mode.TheVariants as mode
+use Rattle.hall.specs.declared.making.TheConstants.{MOST_SEATS, MOST_SLOTS}
 use Rattle.hall.specs.declared.view.Shape.{Shape}
+use Rattle.state_word.specs.declared.TheConstants.{COUNTS, FIRST_NEGATIVE, MOST_COUNTED, WORDS}
 use Rattle.state_word.specs.Words.{may_defer_of, upgrade_of, begun_of, held_of, idle_of, units_of}
 use Rattle.view_sums.specs.Sums.{total, total-le, total-plus, find, term_le, terms_le}
 use Rattle.hall.specs.declared.cargo.CargoRule.{Ghosts}
@@ -46,13 +48,13 @@ module _ {P : Type 0} where
 -- Each reader's unit is counted once: the inline count, the announced writers' hands and the slots that name the lock are together the readers and those who owe a unit.
 -- The count is a whole number, whose 32 bits are in two's complement.
 abbrev pub CountsUnits : ℕ → ℕ → Tally → Type 0
-CountsUnits w named t = ((units_of w < 2147483648) × (units_of w + (t.hand + named) ≡ t.shared + t.undecided + t.owing)) ⊎ ((2147483648 ≤ units_of w) × (units_of w + (t.hand + named) ≡ 4294967296 + (t.shared + t.undecided + t.owing)))
+CountsUnits w named t = ((units_of w < FIRST_NEGATIVE) × (units_of w + (t.hand + named) ≡ t.shared + t.undecided + t.owing)) ⊎ ((FIRST_NEGATIVE ≤ units_of w) × (units_of w + (t.hand + named) ≡ COUNTS + (t.shared + t.undecided + t.owing)))
 
 -- A word has 64 bits, of which 4 to 31 are 0. Its count is no greater than there may be seats, and no less than there may be hands and tokens.
 pub record IsStateWord (w : ℕ) : Type 0 where
-  pub bounded : w < 18446744073709551616
+  pub bounded : w < WORDS
   pub idle : idle_of w ≡ 0
-  pub count : (units_of w ≤ 1048576) ⊎ (4294967296 ≤ units_of w + 512)
+  pub count : (units_of w ≤ MOST_SEATS) ⊎ (COUNTS ≤ units_of w + 2 * MOST_SLOTS)
 
 module _ {P : Type 0} where
   -- while readers don't defer, each slot that names the lock has a pass that is undecided about it, or an announced writer that hasn't looked at it
@@ -122,13 +124,13 @@ roles_fit x y h = elim x as (λ z. Apart z y → fits (role_of z) (role_of y) �
 
 units_whole : (w named : ℕ) (t : Tally) → Lawful w named t → t.hand + named ≤ 512 → t.shared + t.undecided + t.owing ≤ 1048576 → CountsUnits w named t
 units_whole w named t l tokens few = let lim = l.bounded in let s = l.shows in let b = l.bit in let a = l.alone in
-    dite (dec_lt (units_of w) 2147483648) (λ low. inl (low, omega arith)) (λ high. inr (omega arith, omega arith))
+    dite (dec_lt (units_of w) FIRST_NEGATIVE) (λ low. inl (low, omega arith)) (λ high. inr (omega arith, omega arith))
 
 word_formed : (w named : ℕ) (t : Tally) → Lawful w named t → t.hand + named ≤ 512 → t.shared + t.undecided + t.owing ≤ 1048576 → IsStateWord w
 word_formed w named t l tokens few = let lim = l.bounded in let s = l.shows in let b = l.bit in let a = l.alone in record {
   bounded = lim;
   idle = omega arith;
-  count = dite (dec_lt (units_of w) 2147483648) (λ low. inl (omega arith)) (λ high. inr (omega arith));
+  count = dite (dec_lt (units_of w) FIRST_NEGATIVE) (λ low. inl (omega arith)) (λ high. inr (omega arith));
 }
 
 one_unit : (x : Standing) → (weight x).shared + (weight x).undecided + (weight x).owing ≤ 1
@@ -157,7 +159,7 @@ hands_le : {P : Type 0} (views : List (View P)) (lock : ℕ) → ((j : ℕ) (v :
 hands_le [] lock h = omega arith
 hands_le (x ∷ xs) lock h = omega (arith, h zero x refl, hands_le xs lock (λ j v e. h (suc j) v e))
 
-pub room_left : (w named : ℕ) (t : Tally) → Lawful w named t → t.shared + t.undecided + t.owing ≤ 1048576 → t.hand + named ≤ 512 → units_of w ≢ 2147483647
+pub room_left : (w named : ℕ) (t : Tally) → Lawful w named t → t.shared + t.undecided + t.owing ≤ 1048576 → t.hand + named ≤ 512 → units_of w ≢ MOST_COUNTED
 room_left w named t l few tokens full = let s = l.shows in let b = l.bit in let a = l.alone in omega arith
 
 module _ {C P : Type 0} (g : Ghosts C P) (plan : Plan C) where

@@ -5,8 +5,8 @@ use Rattle.std.proofs.lemmas.List.{set-get_or}
 use mathlib.Core.Logic.{dite}
 use native.Mathlib.Decide.{ℕ_discrete}
 use Rattle.hall.specs.declared.view.View.{View}
-use Rattle.hall.specs.declared.view.Kind.{Kind}
-use Rattle.hall.specs.declared.view.Kind.TheVariants as kinds
+use Rattle.hall.specs.declared.view.StepKind.{StepKind}
+use Rattle.hall.specs.declared.view.StepKind.TheVariants as kinds
 use Rattle.hall.specs.declared.view.Standing.{Standing}
 use Rattle.hall.specs.declared.view.Standing.TheVariants.{Away, Announcing}
 use Rattle.hall.specs.Calls.{ElsewhereSame}
@@ -32,11 +32,11 @@ module _ {P : Type 0} where
   none_pending_at v w lock same here clear k = dite (ℕ_discrete k lock) (λ e. ap (λ (i : ℕ). pending (standing w i)) e ∙ here) (λ ne. ap pending (same k ne) ∙ clear k)
 
   -- at a lock at which nothing was pending nothing is pending after a look
-  pub none_pending_looked : (v w : View P) (lock word : ℕ) (kind : Kind) → w ≡ after_look v kind lock word → HasNonePending v → HasNonePending w
+  pub none_pending_looked : (v w : View P) (lock word : ℕ) (kind : StepKind) → w ≡ after_look v kind lock word → HasNonePending v → HasNonePending w
   none_pending_looked v w lock word kind is = none_pending_same v w (ap (λ (z : View P). z.standings) is ∙ set-get_or v.standings lock Away)
 
   -- or after a step on a cargo word
-  pub none_pending_noted : (v w : View P) (kind : Kind) (place word : ℕ) (won : Bool) (used : ℕ) (part : P) → w ≡ after_note v kind place word won used part → HasNonePending v → HasNonePending w
+  pub none_pending_noted : (v w : View P) (kind : StepKind) (place word : ℕ) (won : Bool) (used : ℕ) (part : P) → w ≡ after_note v kind place word won used part → HasNonePending v → HasNonePending w
   none_pending_noted v w kind place word won used part is = none_pending_same v w (ap (λ (z : View P). z.standings) is)
 
 set_pending : (l : List Standing) (i : ℕ) (y : Standing) → pending y ≡ 0 → pending (slice_index_or l i Away) ≡ 0 → pending (slice_index_or (slice_set l i y) i Away) ≡ 0
@@ -44,7 +44,7 @@ set_pending [] i y rests was = refl
 set_pending (x ∷ xs) zero y rests was = rests
 set_pending (x ∷ xs) (suc i) y rests was = set_pending xs i y rests was
 
-module _ {P : Type 0} (v w : View P) (lock place word : ℕ) (kind : Kind) (won : Bool) (y : Standing) (part : P) (is : w ≡ after_step_at v kind lock place word won y part) where
+module _ {P : Type 0} (v w : View P) (lock place word : ℕ) (kind : StepKind) (won : Bool) (y : Standing) (part : P) (is : w ≡ after_step_at v kind lock place word won y part) where
   pub stands_after : lock < length v.standings → standing w lock ≡ y
   stands_after near = ap (λ (z : View P). standing z lock) is ∙ get_or-set_same v.standings lock y Away near
 

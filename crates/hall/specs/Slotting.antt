@@ -5,8 +5,8 @@ use Rattle.lock_model.specs.declared.model.Act.TheVariants as act
 use Rattle.state_word.specs.Words.{may_defer_of, add_of}
 use Rattle.hall.specs.declared.cargo.CargoRule.{Ghosts}
 use Rattle.hall.specs.declared.view.View.{View}
-use Rattle.hall.specs.declared.view.Kind.{Kind}
-use Rattle.hall.specs.declared.view.Kind.TheVariants as kinds
+use Rattle.hall.specs.declared.view.StepKind.{StepKind}
+use Rattle.hall.specs.declared.view.StepKind.TheVariants as kinds
 use Rattle.hall.specs.declared.view.Standing.{Standing}
 use Rattle.hall.specs.declared.view.Standing.TheVariants.{Away, Inline, Slotted, Undecided, Owing, Upgrade, Exclusive, Announcing}
 use Rattle.hall.specs.Views.{pending, standing, after_step, after_step_at}
@@ -80,7 +80,7 @@ module _ {P : Type 0} where
 
 module _ {C P : Type 0} (g : Ghosts C P) where
   -- a step that found this word in a slot and left it, left this standing and moved nothing
-  abbrev pub SlotStays : Kind → Standing → View P → ℕ → ℕ → ℕ → View P → Type 0
+  abbrev pub SlotStays : StepKind → Standing → View P → ℕ → ℕ → ℕ → View P → Type 0
   SlotStays kind y v lock slot found w = (w ≡ after_step_at v kind lock slot found false y v.part) × MomentAt g v w lock slot found found None
 
   -- a token was placed in an empty slot

@@ -8,12 +8,12 @@ use Rattle.hall.specs.declared.view.View.{View}
 use Rattle.hall.specs.declared.view.Shape.{Shape}
 use Rattle.hall.specs.declared.view.Footprint.{Footprint}
 use Rattle.hall.specs.declared.view.StepEntry.{StepEntry}
-use Rattle.hall.specs.declared.view.Kind.{Kind}
-use Rattle.hall.specs.declared.view.Kind.TheVariants.{Hold, Join}
+use Rattle.hall.specs.declared.view.StepKind.{StepKind}
+use Rattle.hall.specs.declared.view.StepKind.TheVariants.{Hold, Join}
 use Rattle.hall.specs.Numbers.{owns}
 use Rattle.hall.specs.Views.{footprint, is_away, is_outside, is_strong, standing}
 
-abbrev pub is_join : Kind → Bool
+abbrev pub is_join : StepKind → Bool
 is_join Join = true
 is_join k = false
 

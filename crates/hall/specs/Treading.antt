@@ -14,7 +14,7 @@ use Rattle.hall.specs.Rule.{Holds}
 use Rattle.hall.specs.Trails.{IsTrodden}
 use Rattle.lock_model.specs.Locks.{Has}
 use Rattle.hall.specs.declared.view.View.{View}
-use Rattle.hall.specs.declared.view.Kind.{Kind}
+use Rattle.hall.specs.declared.view.StepKind.{StepKind}
 use Rattle.hall.specs.declared.view.Footprint.{Footprint}
 use Rattle.hall.specs.declared.view.Standing.{Standing}
 use Rattle.hall.specs.Views.{after_step, after_step_at, footprint, footprints_left, is_away, is_strong, place_of, standing}
@@ -65,7 +65,7 @@ module _ {P : Type 0} where
   treads_as may so v w as_so t = record { number = t.number; added = t.added; stand = t.stand; each = λ m has. let is = t.each m has in (is.0, as_so m is.1) }
 
   -- one step for a lock, from one standing to another, on the word at a place of the table
-  pub treads_step_at : (v w : View P) (kind : Kind) (lock place word : ℕ) (won : Bool) (y : Standing) (part : P) → w ≡ after_step_at v kind lock place word won y part → Treads (IsBetween lock (standing v lock) y) v w
+  pub treads_step_at : (v w : View P) (kind : StepKind) (lock place word : ℕ) (won : Bool) (y : Standing) (part : P) → w ≡ after_step_at v kind lock place word won y part → Treads (IsBetween lock (standing v lock) y) v w
   treads_step_at v w kind lock place word won y part is = record {
     number = ap (λ (z : View P). z.number) is;
     added = footprints_left v.number lock (standing v lock) y;
@@ -76,7 +76,7 @@ module _ {P : Type 0} where
   }
 
   -- and on the lock's own word
-  pub treads_step : (v w : View P) (kind : Kind) (lock word : ℕ) (won : Bool) (y : Standing) (part : P) → w ≡ after_step v kind lock word won y part → Treads (IsBetween lock (standing v lock) y) v w
+  pub treads_step : (v w : View P) (kind : StepKind) (lock word : ℕ) (won : Bool) (y : Standing) (part : P) → w ≡ after_step v kind lock word won y part → Treads (IsBetween lock (standing v lock) y) v w
   treads_step v w kind lock word won y part is = treads_step_at v w kind lock (place_of v lock) word won y part is
 
 -- where neither standing is strong, a footprint between them is weak

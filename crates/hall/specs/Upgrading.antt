@@ -1,10 +1,11 @@
 -- What each step of upgrade mode, and each lowering, tells its caller.
 use Rattle.std.specs.Prelude.{◌≡◌, ℕ, true, None, Some}
 use Rattle.lock_model.specs.declared.model.Act.TheVariants as act
+use Rattle.state_word.specs.declared.TheConstants.{HELD, ONE, UPGRADE}
 use Rattle.state_word.specs.Words.{upgrade_of, begun_of, held_of, announce_of, retract_of, up_of, down_of, to_shared_of}
 use Rattle.hall.specs.declared.cargo.CargoRule.{Ghosts}
 use Rattle.hall.specs.declared.view.View.{View}
-use Rattle.hall.specs.declared.view.Kind.TheVariants as kinds
+use Rattle.hall.specs.declared.view.StepKind.TheVariants as kinds
 use Rattle.hall.specs.declared.view.Standing.TheVariants.{Away, Inline, Upgrade, Exclusive, Announcing}
 use Rattle.hall.specs.Cargo.{shared_mode, upgrade_mode}
 use Rattle.hall.specs.Views.{after_step}
@@ -48,8 +49,8 @@ module _ {C P : Type 0} (g : Ghosts C P) where
 
   -- an exclusive holder became an inline reader, the only one
   abbrev pub LowersToShared : View P → ℕ → ℕ → View P → Type 0
-  LowersToShared v lock found w = (found ≡ 8) × (w ≡ after_step v kinds.ExclusiveShared lock 8 true Inline (g.lowered lock shared_mode v.part)) × Moment g v w lock 8 4294967296 (Some act.ExclusiveToShared)
+  LowersToShared v lock found w = (found ≡ HELD) × (w ≡ after_step v kinds.ExclusiveShared lock HELD true Inline (g.lowered lock shared_mode v.part)) × Moment g v w lock HELD ONE (Some act.ExclusiveToShared)
 
   -- an exclusive holder kept upgrade
   abbrev pub LowersToUpgrade : View P → ℕ → ℕ → View P → Type 0
-  LowersToUpgrade v lock found w = (found ≡ 8) × (w ≡ after_step v kinds.ExclusiveUpgrade lock 8 true Upgrade (g.lowered lock upgrade_mode v.part)) × Moment g v w lock 8 2 (Some act.ExclusiveToUpgrade)
+  LowersToUpgrade v lock found w = (found ≡ HELD) × (w ≡ after_step v kinds.ExclusiveUpgrade lock HELD true Upgrade (g.lowered lock upgrade_mode v.part)) × Moment g v w lock HELD UPGRADE (Some act.ExclusiveToUpgrade)

@@ -1,8 +1,8 @@
 -- A view as plain data, and what one step does to it.
 use Rattle.std.specs.Prelude.{ℕ, ◌+◌, ◌-◌, Bool, true, false, ◌&&◌, ◌||◌, cond, List, [], ◌∷◌, ◌++◌, slice_index_or, slice_set, replicate, Option, None}
 use Rattle.hall.specs.declared.view.View.{View}
-use Rattle.hall.specs.declared.view.Kind.{Kind}
-use Rattle.hall.specs.declared.view.Kind.TheVariants.{Split, Join}
+use Rattle.hall.specs.declared.view.StepKind.{StepKind}
+use Rattle.hall.specs.declared.view.StepKind.TheVariants.{Split, Join}
 use Rattle.lock_model.specs.declared.model.Policy.TheVariants.{ReadPriority}
 use Rattle.lock_model.specs.declared.model.Mode.{Mode}
 use Rattle.hall.specs.Cargo.{shared_mode, upgrade_mode, exclusive_mode}
@@ -84,15 +84,15 @@ module _ {P : Type 0} where
   cargo_place_of v place = v.shape.slots + v.shape.locks + place
 
   -- a step for a lock, on the word at a place of the table
-  abbrev pub entry_at : View P → Kind → ℕ → ℕ → ℕ → Bool → StepEntry
+  abbrev pub entry_at : View P → StepKind → ℕ → ℕ → ℕ → Bool → StepEntry
   entry_at v kind lock place word won = record { number = v.number; kind = kind; lock = lock; place = place; before = standing v lock; word = word; won = won }
 
   -- the same on the lock's own word
-  abbrev pub entry_of : View P → Kind → ℕ → ℕ → Bool → StepEntry
+  abbrev pub entry_of : View P → StepKind → ℕ → ℕ → Bool → StepEntry
   entry_of v kind lock word won = entry_at v kind lock (place_of v lock) word won
 
   -- the view after a step for a lock, on the word at a place of the table, that leaves the standing y at the lock, and the part
-  abbrev pub after_step_at : View P → Kind → ℕ → ℕ → ℕ → Bool → Standing → P → View P
+  abbrev pub after_step_at : View P → StepKind → ℕ → ℕ → ℕ → Bool → Standing → P → View P
   after_step_at v kind lock place word won y part = record {
     shape = v.shape;
     number = v.number;
@@ -106,11 +106,11 @@ module _ {P : Type 0} where
   }
 
   -- the same on the lock's own word
-  abbrev pub after_step : View P → Kind → ℕ → ℕ → Bool → Standing → P → View P
+  abbrev pub after_step : View P → StepKind → ℕ → ℕ → Bool → Standing → P → View P
   after_step v kind lock word won y part = after_step_at v kind lock (place_of v lock) word won y part
 
   -- the view after a step that found a word and changed nothing
-  abbrev pub after_look : View P → Kind → ℕ → ℕ → View P
+  abbrev pub after_look : View P → StepKind → ℕ → ℕ → View P
   after_look v kind lock word = after_step v kind lock word false (standing v lock) v.part
 
   -- the view of who stays, after so many of its numbers and so much of its quota were given
@@ -160,7 +160,7 @@ module _ {P : Type 0} where
   spent_view part = record { shape = record { locks = 0; slots = 0; seats = 0; policy = ReadPriority; words = 0 }; number = 0; span = 0; taken = []; quota = 0; standings = []; steps = []; trail = []; part = part }
 
   -- the view after a step on a cargo word at a place of the table
-  abbrev pub after_note : View P → Kind → ℕ → ℕ → Bool → ℕ → P → View P
+  abbrev pub after_note : View P → StepKind → ℕ → ℕ → Bool → ℕ → P → View P
   after_note v kind place word won used part = record {
     shape = v.shape;
     number = v.number;

@@ -60,7 +60,7 @@ pub use closing::Closed;
 pub use guards::{Announced, ExclusiveGuard, Form, SharedGuard, TryFault, UpgradeGuard, Why};
 pub use hall::{Hall, Pass};
 pub use lock_model::{Mode, Policy};
-pub use making::NoMemory;
+pub use making::{MOST_LOCKS, MOST_SEATS, MOST_SLOTS, NoMemory};
 pub use no_cargo::NoCargo;
 pub use plays::Note;
 pub use state_word::Word;

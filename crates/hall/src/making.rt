@@ -1,5 +1,6 @@
 //! How a hall is made.
 ghost use Rattle.std.specs.Prelude.{◌≡◌, ◌+◌, ◌<◌, ◌≤◌, ◌^◌, IfOk};
+ghost use Rattle.hall.specs.declared.making.TheConstants.{MOST_LOCKS, MOST_SEATS, MOST_SLOTS};
 ghost use Rattle.hall.specs.Rule.{first_view};
 ghost use Rattle.hall.specs.Slotting.{HasNonePending};
 
@@ -10,6 +11,15 @@ use atomic_table::Table;
 use lock_model::Policy;
 use std::alloc::Global;
 
+/// The most locks of a hall.
+pub const MOST_LOCKS: u64 = 1 << 20;
+
+/// The most slots of a hall.
+pub const MOST_SLOTS: u64 = 256;
+
+/// The most passes of a hall.
+pub const MOST_SEATS: u64 = 1 << 20;
+
 /// There was no memory for the words. The cargo was dropped.
 #[derive(Debug, Drop)]
 pub struct NoMemory;
@@ -17,8 +27,8 @@ pub struct NoMemory;
 impl<C: Cargo> Hall<C> {
     ghost use Rattle.hall.specs.Passes.{view, IsPassOf, shape_of, cargo_of};
 
-    /// Makes a hall of `locks` locks (1 to 2^20) over `slots` slots (1 to 256), for at most `seats` passes (1 to 2^20),
-    /// with a cargo that admits the quota. All words are 0. It gives the first pass, which has the number 0, all other
+    /// Makes a hall of `locks` locks (1 to `MOST_LOCKS`) over `slots` slots (1 to `MOST_SLOTS`), for at most `seats` passes
+    /// (1 to `MOST_SEATS`), with a cargo that admits the quota. All words are 0. It gives the first pass, which has the number 0, all other
     /// numbers spare and the whole quota. It takes memory for the words, and is the only call of a hall that does.
     pub fn make(
         alloc: Global,
@@ -29,9 +39,9 @@ impl<C: Cargo> Hall<C> {
         quota: u64,
         cargo: C,
     ) -> Result<(Hall<C>, Pass<C>), NoMemory>
-        requires locks { (0 < locks) × (locks ≤ 2 ^ 20) }
-        requires slots { (0 < slots) × (slots ≤ 256) }
-        requires seats { (0 < seats) × (seats ≤ 2 ^ 20) }
+        requires locks { (0 < locks) × (locks ≤ MOST_LOCKS) }
+        requires slots { (0 < slots) × (slots ≤ MOST_SLOTS) }
+        requires seats { (0 < seats) × (seats ≤ MOST_SEATS) }
         requires words { slots + locks + C.word_count cargo < 2 ^ 32 }
         requires admits { C.admits cargo quota }
         ensures { IfOk result (λ t. IsPassOf t.0 t.1 × (cargo_of t.0 ≡ cargo) × (shape_of t.0 ≡ record { locks = locks; slots = slots; seats = seats; policy = policy; words = C.word_count cargo }) × (view t.1 ≡ first_view C.CargoRule record { shape = record { locks = locks; slots = slots; seats = seats; policy = policy; words = C.word_count cargo }; quota = quota; cargo = cargo }) × HasNonePending (view t.1)) }

@@ -6,7 +6,7 @@ ghost use Rattle.hall.specs.Views.{standing, split_left, split_right, joined_vie
 
 use crate::cargo::Cargo;
 use crate::hall::{Hall, Pass};
-use crate::plays::{Cut, Dividing, Joining, Weigh};
+use crate::plays::{Cut, Dividing, Joining, UnlistedLook};
 use std::marker::Brand;
 
 impl<C: Cargo> Hall<C> {
@@ -19,7 +19,7 @@ impl<C: Cargo> Hall<C> {
         ensures pass { IsPassOf self.now pass.new × (pass.new.seat.id ≡ pass.old.seat.id) × (view pass.new ≡ view pass.old) }
         ensures met { Met C.CargoRule (view pass.old) }
     {
-        self.table.shared.load::<Weigh<C>>(&mut pass.seat, 0);
+        self.table.shared.load::<UnlistedLook<C>>(&mut pass.seat, 0);
     }
 
     fn split_by<K: Cut>(&self, pass: &mut Pass<C>, seats: u64, quota: u64) -> Pass<C>
@@ -89,7 +89,7 @@ impl<C: Cargo> Hall<C> {
             .shared
             .join_seat::<Joining<C>>(&mut pass.seat, seat);
         // The two quotas were split out of one, so their sum is no greater.
-        self.table.shared.load::<Weigh<C>>(&mut pass.seat, 0);
+        self.table.shared.load::<UnlistedLook<C>>(&mut pass.seat, 0);
         pass.quota = pass.quota.wrapping_add(quota);
     }
 }

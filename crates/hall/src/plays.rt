@@ -286,11 +286,11 @@ impl<C: CargoRule> Join<View<C::Part>> for Joining<C> {
 
 /// A look that isn't listed: it tells that the rule holds at a moment at which the pass has its view, and that the
 /// quota is one of a `u64`.
-pub struct Weigh<C> {
+pub struct UnlistedLook<C> {
     marker: PhantomData<C>,
 }
 
-impl<C: CargoRule> Play<(), View<C::Part>> for Weigh<C> {
+impl<C: CargoRule> Play<(), View<C::Part>> for UnlistedLook<C> {
     ghost use Rattle.std.specs.Prelude.{◌≡◌, ◌<◌, ◌^◌};
     ghost use Rattle.hall.specs.Partings.{Met};
 

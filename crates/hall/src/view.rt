@@ -34,7 +34,7 @@ pub enum Standing {
 
 /// The kinds of step.
 #[derive(Clone, Copy)]
-pub enum Kind {
+pub enum StepKind {
     Load,
     Enter,
     Lower,
@@ -68,7 +68,7 @@ pub enum Kind {
 pub struct StepEntry {
     /// The number of the pass that made it.
     pub number: u64,
-    pub kind: Kind,
+    pub kind: StepKind,
     /// The lock that it was made for, on its state word or on a slot. A step on a cargo word, a split and a join have 0.
     pub lock: u64,
     /// Which word of the table it was made on. A split and a join have 0.

@@ -10,6 +10,7 @@ use Rattle.lock_model.specs.declared.model.Act.TheVariants.{EnterShared}
 use Rattle.lock_model.specs.declared.model.SeatRole.{SeatRole}
 use Rattle.std.specs.Prelude.{Bool}
 use Rattle.lock_model.specs.Locks.{Lock, Has, IsLawful, after_event}
+use Rattle.state_word.specs.declared.TheConstants.{COUNTS, MOST_COUNTED, WORDS}
 use Rattle.state_word.specs.Words.{fields, fields_of, is_deep, may_defer_of, upgrade_of, begun_of, held_of, idle_of, units_of, enter_of, lower_of, announce_of, hold_of, retract_of, release_of, up_of, down_of, to_shared_of, to_upgrade_of, add_of}
 use Rattle.hall.specs.declared.cargo.CargoRule.{Ghosts}
 use Rattle.hall.specs.declared.view.Plan.{Plan}
@@ -57,17 +58,17 @@ NoReaderPasses = (l after : Lock) (seat : ℕ) → l.policy ≡ WritePriority �
 
 -- what each change of a word, where its condition holds, makes of the word's fields
 pub record FieldLaws (w : ℕ) : Type 0 where
-  pub enter : units_of w ≢ 2147483647 → fields_of (enter_of w) ≡ fields (if is_deep w then 1 else may_defer_of w) (upgrade_of w) (begun_of w) (held_of w) (idle_of w) ((units_of w + 1) % 4294967296)
-  pub lower : fields_of (lower_of w) ≡ fields (may_defer_of w) (upgrade_of w) (begun_of w) (held_of w) (idle_of w) ((units_of w + 4294967295) % 4294967296)
+  pub enter : units_of w ≢ MOST_COUNTED → fields_of (enter_of w) ≡ fields (if is_deep w then 1 else may_defer_of w) (upgrade_of w) (begun_of w) (held_of w) (idle_of w) ((units_of w + 1) % COUNTS)
+  pub lower : fields_of (lower_of w) ≡ fields (may_defer_of w) (upgrade_of w) (begun_of w) (held_of w) (idle_of w) ((units_of w + (COUNTS - 1)) % COUNTS)
   pub announce : begun_of w ≡ 0 → fields_of (announce_of w) ≡ fields 0 (upgrade_of w) 1 (held_of w) (idle_of w) (units_of w)
   pub hold : begun_of w ≡ 1 → units_of w ≡ 0 → fields_of (hold_of w) ≡ fields (may_defer_of w) 0 0 1 (idle_of w) 0
   pub retract : begun_of w ≡ 1 → may_defer_of w ≡ 0 → fields_of (retract_of w) ≡ fields 1 (upgrade_of w) 0 (held_of w) (idle_of w) (units_of w)
   pub release : held_of w ≡ 1 → fields_of (release_of w) ≡ fields (may_defer_of w) (upgrade_of w) (begun_of w) 0 (idle_of w) (units_of w)
   pub up : upgrade_of w ≡ 0 → fields_of (up_of w) ≡ fields (may_defer_of w) 1 (begun_of w) (held_of w) (idle_of w) (units_of w)
   pub down : upgrade_of w ≡ 1 → fields_of (down_of w) ≡ fields (may_defer_of w) 0 (begun_of w) (held_of w) (idle_of w) (units_of w)
-  pub to_shared : fields_of (to_shared_of w) ≡ fields (may_defer_of w) 0 (begun_of w) 0 (idle_of w) ((units_of w + 1) % 4294967296)
+  pub to_shared : fields_of (to_shared_of w) ≡ fields (may_defer_of w) 0 (begun_of w) 0 (idle_of w) ((units_of w + 1) % COUNTS)
   pub to_upgrade : held_of w ≡ 1 → fields_of (to_upgrade_of w) ≡ fields (may_defer_of w) 1 (begun_of w) 0 (idle_of w) (units_of w)
-  pub add : (n : ℕ) → fields_of (add_of w n) ≡ fields (may_defer_of w) (upgrade_of w) (begun_of w) (held_of w) (idle_of w) ((units_of w + n) % 4294967296)
+  pub add : (n : ℕ) → fields_of (add_of w n) ≡ fields (may_defer_of w) (upgrade_of w) (begun_of w) (held_of w) (idle_of w) ((units_of w + n) % COUNTS)
 
 abbrev pub ChangesFields : Type 0
-ChangesFields = (w : ℕ) → w < 18446744073709551616 → FieldLaws w
+ChangesFields = (w : ℕ) → w < WORDS → FieldLaws w

@@ -4,7 +4,7 @@ use Rattle.std.proofs.lemmas.List.{set-get_or}
 use Rattle.view_sums.specs.Sums.{total, total-same}
 use Rattle.lock_model.specs.Locks.{Has}
 use Rattle.hall.specs.declared.cargo.CargoRule.{Ghosts}
-use Rattle.hall.specs.declared.view.Kind.TheVariants.{Load}
+use Rattle.hall.specs.declared.view.StepKind.TheVariants.{Load}
 use Rattle.hall.specs.declared.view.Shape.{Shape}
 use Rattle.hall.specs.declared.view.Standing.{Standing}
 use Rattle.hall.specs.declared.view.Standing.TheVariants.{Away}

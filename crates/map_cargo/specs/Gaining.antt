@@ -4,7 +4,7 @@ use Rattle.std.proofs.Common.{refl, sym, ap, subst, ◌∙◌}
 use mathlib.Core.Logic.{dite}
 use native.Mathlib.Decide.{ℕ_discrete}
 use Rattle.hall.specs.declared.view.View.{View}
-use Rattle.hall.specs.declared.view.Kind.{Kind}
+use Rattle.hall.specs.declared.view.StepKind.{StepKind}
 use Rattle.hall.specs.declared.view.Standing.{Standing}
 use Rattle.hall.specs.declared.view.Standing.TheVariants.{Away}
 use Rattle.hall.specs.Slotting.{HasNonePending}
@@ -18,7 +18,7 @@ use Rattle.map_cargo.specs.StepLaws.{more_then}
 use Rattle.map_cargo.specs.Steps.{Gained, MoreSteps, placed}
 
 -- by one step for the lock, whatever its kind, and whether it won an exchange or only looked
-pub gained_with : (kind : Kind) (won : Bool) (y : Standing) (v : View Part) (lock found : ℕ) (w : View Part) → (ws : List ℕ) × (part : Part) × Learns lock v.part part × (w ≡ after_step v kind lock found won y part) → Gained lock v w
+pub gained_with : (kind : StepKind) (won : Bool) (y : Standing) (v : View Part) (lock found : ℕ) (w : View Part) → (ws : List ℕ) × (part : Part) × Learns lock v.part part × (w ≡ after_step v kind lock found won y part) → Gained lock v w
 gained_with kind won y v lock found w t =
     let a = after_gain lock v.part t.1 t.2 in subst (λ (z : View Part). Gained lock v z) (sym t.3) record {
       settled = a.0;
@@ -35,7 +35,7 @@ gained_with kind won y v lock found w t =
       steps = record { added = entry_of v kind lock found won ∷ []; stand = refl };
     }
 
-pub gained_by : (kind : Kind) (y : Standing) (v : View Part) (lock found : ℕ) (w : View Part) → (ws : List ℕ) × (part : Part) × Learns lock v.part part × (w ≡ after_step v kind lock found true y part) → Gained lock v w
+pub gained_by : (kind : StepKind) (y : Standing) (v : View Part) (lock found : ℕ) (w : View Part) → (ws : List ℕ) × (part : Part) × Learns lock v.part part × (w ≡ after_step v kind lock found true y part) → Gained lock v w
 gained_by kind y = gained_with kind true y
 
 -- a pass that is away from one lock and from each other is away from all

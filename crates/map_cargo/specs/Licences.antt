@@ -3,7 +3,7 @@ use Rattle.std.specs.Prelude.{◌≡◌, ◌≢◌, ◌⊎◌, ℕ, ◌<◌, ◌
 use Rattle.std.proofs.Common.{inl, inr, ⊎_elim}
 use Rattle.lock_model.specs.Locks.{Has}
 use Rattle.hall.specs.declared.view.Footprint.{Footprint}
-use Rattle.hall.specs.declared.view.Kind.TheVariants.{Load}
+use Rattle.hall.specs.declared.view.StepKind.TheVariants.{Load}
 use Rattle.hall.specs.declared.view.Shape.{Shape}
 use Rattle.hall.specs.declared.view.Standing.TheVariants.{Away}
 use Rattle.hall.specs.declared.view.StepEntry.{StepEntry}

@@ -2,7 +2,7 @@
 use Rattle.std.specs.Prelude.{◌≡◌, ◌≢◌, ℕ, ◌+◌, ◌*◌, ◌<◌, ◌⊎◌, zero, suc, false, Option, Some, None, List, [], ◌∷◌, ◌++◌}
 use Rattle.lock_model.specs.Locks.{Has}
 use Rattle.hall.specs.declared.view.View.{View}
-use Rattle.hall.specs.declared.view.Kind.TheVariants.{LoadCargo, StoreCargo}
+use Rattle.hall.specs.declared.view.StepKind.TheVariants.{LoadCargo, StoreCargo}
 use Rattle.hall.specs.declared.view.StepEntry.{StepEntry}
 use Rattle.hall.specs.Views.{cargo_place_of}
 use Rattle.map_cargo.specs.declared.size.MapCargo.{MapCargo}

@@ -1,8 +1,8 @@
 -- Laws of steps: what calls leave, one after the other.
 use Rattle.std.specs.Prelude.{◌≡◌, ℕ, ◌+◌, ◌-◌, ◌<◌, Bool, zero, suc, true, List, [], ◌∷◌, ◌++◌, slice_index}
 use Rattle.std.proofs.Common.{refl, sym, ap, subst, ◌∙◌, append_assoc, arith, add-one}
-use Rattle.hall.specs.declared.view.Kind.{Kind}
-use Rattle.hall.specs.declared.view.Kind.TheVariants.{AddCargo, StoreCargo}
+use Rattle.hall.specs.declared.view.StepKind.{StepKind}
+use Rattle.hall.specs.declared.view.StepKind.TheVariants.{AddCargo, StoreCargo}
 use Rattle.hall.specs.declared.view.StepEntry.{StepEntry}
 use Rattle.hall.specs.declared.view.Standing.TheVariants.{Away}
 use Rattle.hall.specs.declared.view.View.{View}
@@ -56,13 +56,13 @@ pub stays_alike : (v w : View Part) → Alike v w → Stays v w
 stays_alike v w a = record { shape = a.shape; standings = a.standings; number = a.number; span = a.span; taken = a.taken; trail = a.trail; steps = a.steps }
 
 -- one step on a word of the cargo
-pub noted_stays : (v w : View Part) (kind : Kind) (place word used : ℕ) (won : Bool) (part : Part) → w ≡ after_note v kind place word won used part → Stays v w
+pub noted_stays : (v w : View Part) (kind : StepKind) (place word used : ℕ) (won : Bool) (part : Part) → w ≡ after_note v kind place word won used part → Stays v w
 noted_stays v w kind place word used won part is = subst (λ (z : View Part). Stays v z) (sym is) record { shape = refl; standings = refl; number = refl; span = refl; taken = refl; trail = refl; steps = more_one v (after_note v kind place word won used part) _ refl }
 
 less_none : (n : ℕ) → n - 0 ≡ n
 less_none n = omega arith
 
-pub noted_alike : (v w : View Part) (kind : Kind) (place word : ℕ) (won : Bool) (part : Part) → w ≡ after_note v kind place word won 0 part → Alike v w
+pub noted_alike : (v w : View Part) (kind : StepKind) (place word : ℕ) (won : Bool) (part : Part) → w ≡ after_note v kind place word won 0 part → Alike v w
 noted_alike v w kind place word won part is = subst (λ (z : View Part). Alike v z) (sym is) record { shape = refl; standings = refl; number = refl; span = refl; taken = refl; trail = refl; quota = less_none v.quota; steps = more_one v (after_note v kind place word won 0 part) _ refl }
 
 -- the stores of a log row, one after the other

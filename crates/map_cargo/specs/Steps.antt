@@ -5,8 +5,8 @@ use Rattle.lock_model.specs.Locks.{Has}
 use Rattle.hall.specs.Cargo.{exclusive_mode}
 use Rattle.hall.specs.declared.hall.Hall.{Hall}
 use Rattle.hall.specs.declared.view.View.{View}
-use Rattle.hall.specs.declared.view.Kind.{Kind}
-use Rattle.hall.specs.declared.view.Kind.TheVariants.{StoreCargo}
+use Rattle.hall.specs.declared.view.StepKind.{StepKind}
+use Rattle.hall.specs.declared.view.StepKind.TheVariants.{StoreCargo}
 use Rattle.hall.specs.declared.view.StepEntry.{StepEntry}
 use Rattle.hall.specs.declared.view.Standing.TheVariants.{Away}
 use Rattle.hall.specs.Passes.{shape_of, cargo_of}
@@ -53,7 +53,7 @@ pub record Alike (v w : View Part) : Type 0 where
   pub steps : MoreSteps v w
 
 -- a step of the pass on a word of the cargo, which has its place behind all slots and locks
-abbrev pub cargo_step : View Part → Kind → ℕ → ℕ → Bool → StepEntry
+abbrev pub cargo_step : View Part → StepKind → ℕ → ℕ → Bool → StepEntry
 cargo_step v kind place word won = record { number = v.number; kind = kind; lock = 0; place = v.shape.slots + v.shape.locks + place; before = Away; word = word; won = won }
 
 -- the stores of the first k words of log row w, the newest first

@@ -7,7 +7,7 @@ ghost use Rattle.std.specs.Prelude.{◌≡◌, ◌≢◌, ◌<◌, ◌+◌, ◌*
 ghost use Rattle.hall.specs.Cargo.{exclusive_mode};
 ghost use Rattle.hall.specs.Passes.{view, IsPassOf, cargo_of};
 ghost use Rattle.hall.specs.Views.{standing, mode_of};
-ghost use Rattle.hall.specs.declared.view.Kind.TheVariants.{StoreCargo};
+ghost use Rattle.hall.specs.declared.view.StepKind.TheVariants.{StoreCargo};
 ghost use Rattle.hall.specs.declared.view.StepEntry.{StepEntry};
 ghost use Rattle.query_rules.specs.Maps.{PlainMap, with_value, without};
 ghost use Rattle.map_cargo.specs.Cells.{width, Means};
@@ -21,7 +21,7 @@ use hall::{Hall, Note, Pass};
 use std::marker::{Brand, PhantomData};
 
 /// The word and the value of one call. The call picks them.
-pub(crate) trait Spot {
+pub(crate) trait CallWord {
     ghost use Rattle.std.specs.Prelude.{ℕ};
 
     ghost cell: { ℕ };
@@ -33,7 +33,7 @@ pub(crate) trait Spot {
     ghost width: { ℕ };
 }
 
-impl Spot for Brand {
+impl CallWord for Brand {
     ghost cell = { 0 };
 
     ghost index = { 0 };
@@ -47,7 +47,7 @@ pub(crate) struct Saw<K> {
     marker: PhantomData<K>,
 }
 
-impl<K: Spot> Note<MapCargo> for Saw<K> {
+impl<K: CallWord> Note<MapCargo> for Saw<K> {
     ghost becomes = { λ ws found p q. (q ≡ p) × (found ≡ slice_index (words_of p K.cell) K.index) × (length (words_of p K.cell) ≡ K.width) };
 }
 
@@ -55,11 +55,16 @@ pub(crate) struct Wrote<K> {
     marker: PhantomData<K>,
 }
 
-impl<K: Spot> Note<MapCargo> for Wrote<K> {
+impl<K: CallWord> Note<MapCargo> for Wrote<K> {
     ghost becomes = { λ ws found p q. (q ≡ rewrote p K.cell K.index K.value) × (length (words_of p K.cell) ≡ K.width) };
 }
 
-fn word_by<K: Spot>(hall: &Hall<MapCargo>, pass: &mut Pass<MapCargo>, cell: u64, index: u64) -> u64
+fn word_by<K: CallWord>(
+    hall: &Hall<MapCargo>,
+    pass: &mut Pass<MapCargo>,
+    cell: u64,
+    index: u64,
+) -> u64
     requires pass { IsPassOf hall.now pass.old }
     requires suits { Suits hall.now }
     requires cell { (cell < (cargo_of hall.now).cells) × (cell ≡ K.cell) }
@@ -91,7 +96,7 @@ pub(crate) fn word(hall: &Hall<MapCargo>, pass: &mut Pass<MapCargo>, cell: u64, 
     word_by::<Brand>(hall, pass, cell, index)
 }
 
-fn set_word_by<K: Spot>(
+fn set_word_by<K: CallWord>(
     hall: &Hall<MapCargo>,
     pass: &mut Pass<MapCargo>,
     cell: u64,

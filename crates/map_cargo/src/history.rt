@@ -1,7 +1,7 @@
 //! Drawing a write and placing a read: where a reply stands in the one history.
 ghost use Rattle.std.specs.Prelude.{◌≡◌, ◌≢◌, ◌<◌, ◌≤◌, ◌+◌, ◌%◌, ◌^◌, ◌∷◌, ◌++◌, ℕ, IfOk, MatchResult, slice_index, length, true, false};
 ghost use Rattle.hall.specs.Passes.{view, IsPassOf, cargo_of};
-ghost use Rattle.hall.specs.declared.view.Kind.TheVariants.{LoadCargo, StoreCargo, AddCargo};
+ghost use Rattle.hall.specs.declared.view.StepKind.TheVariants.{LoadCargo, StoreCargo, AddCargo};
 ghost use Rattle.lock_model.specs.Locks.{Has};
 ghost use Rattle.query_rules.specs.declared.query.Query.TheVariants.{Audit};
 ghost use Rattle.query_rules.specs.declared.query.Said.TheVariants.{Absent};
@@ -22,7 +22,7 @@ use query_rules::Query;
 use std::marker::{Brand, PhantomData};
 
 /// The entry of one call, which word of its log row, and the cargo. The call picks them.
-pub(crate) trait Line {
+pub(crate) trait CallLogWord {
     ghost use Rattle.std.specs.Prelude.{ℕ};
     ghost use Rattle.map_cargo.specs.declared.entry.Entry.{Entry};
     ghost use Rattle.map_cargo.specs.declared.size.MapCargo.{MapCargo};
@@ -34,7 +34,7 @@ pub(crate) trait Line {
     ghost cargo: { MapCargo };
 }
 
-impl Line for Brand {
+impl CallLogWord for Brand {
     ghost entry = { record { caller = 0; index = 0; query = Audit; said = Absent } };
 
     ghost index = { 0 };
@@ -46,7 +46,7 @@ pub(crate) struct Draws<K> {
     marker: PhantomData<K>,
 }
 
-impl<K: Line> Note<MapCargo> for Draws<K> {
+impl<K: CallLogWord> Note<MapCargo> for Draws<K> {
     ghost becomes = { λ ws found p q. Drew 0 p q found K.entry × (found < K.cargo.writes) × IsPlainThen K.cargo ws found K.entry };
 }
 
@@ -54,7 +54,7 @@ pub(crate) struct Logs<K> {
     marker: PhantomData<K>,
 }
 
-impl<K: Line> Note<MapCargo> for Logs<K> {
+impl<K: CallLogWord> Note<MapCargo> for Logs<K> {
     ghost becomes = { λ ws found p q. q ≡ logged p (K.index + 1) };
 }
 
@@ -62,7 +62,7 @@ pub(crate) struct Places<K> {
     marker: PhantomData<K>,
 }
 
-impl<K: Line> Note<MapCargo> for Places<K> {
+impl<K: CallLogWord> Note<MapCargo> for Places<K> {
     ghost becomes = { λ ws found p q. (q ≡ placed p found K.entry) × (p.seen ≤ found) × (found ≤ K.cargo.writes) × IsPlainThen K.cargo ws found K.entry };
 }
 
@@ -100,7 +100,7 @@ fn row_of(entry: &Entry, caller: u64) -> [u64; 8]
     }
 }
 
-fn draw_by<K: Line>(hall: &Hall<MapCargo>, pass: &mut Pass<MapCargo>, entry: &Entry) -> u64
+fn draw_by<K: CallLogWord>(hall: &Hall<MapCargo>, pass: &mut Pass<MapCargo>, entry: &Entry) -> u64
     requires pass { IsPassOf hall.now pass.old }
     requires suits { Suits hall.now }
     requires entry { (entry.now ≡ K.entry) × (cargo_of hall.now ≡ K.cargo) }
@@ -132,7 +132,7 @@ fn draw_number(hall: &Hall<MapCargo>, pass: &mut Pass<MapCargo>, entry: &Entry) 
     draw_by::<Brand>(hall, pass, entry)
 }
 
-fn log_by<K: Line>(
+fn log_by<K: CallLogWord>(
     hall: &Hall<MapCargo>,
     pass: &mut Pass<MapCargo>,
     entry: &Entry,
@@ -223,7 +223,7 @@ pub fn draw(
     Ok(number)
 }
 
-fn place_by<K: Line>(hall: &Hall<MapCargo>, pass: &mut Pass<MapCargo>, entry: &Entry) -> u64
+fn place_by<K: CallLogWord>(hall: &Hall<MapCargo>, pass: &mut Pass<MapCargo>, entry: &Entry) -> u64
     requires pass { IsPassOf hall.now pass.old }
     requires suits { Suits hall.now }
     requires entry { (entry.now ≡ K.entry) × (cargo_of hall.now ≡ K.cargo) }

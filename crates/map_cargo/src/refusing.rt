@@ -15,13 +15,13 @@ use query_rules::{Query, Reply};
 use std::marker::{Brand, PhantomData};
 
 /// The refusal of one call. The call picks it.
-pub(crate) trait Refusal {
+pub(crate) trait CallRefusal {
     ghost use Rattle.map_cargo.specs.declared.entry.Told.{Told};
 
     ghost told: { Told };
 }
 
-impl Refusal for Brand {
+impl CallRefusal for Brand {
     ghost told = { told.Refused 0 0 Audit Busy };
 }
 
@@ -29,11 +29,11 @@ pub(crate) struct Tells<K> {
     marker: PhantomData<K>,
 }
 
-impl<K: Refusal> Note<MapCargo> for Tells<K> {
+impl<K: CallRefusal> Note<MapCargo> for Tells<K> {
     ghost becomes = { λ ws found p q. q ≡ told_too p K.told };
 }
 
-fn refuse_by<K: Refusal>(
+fn refuse_by<K: CallRefusal>(
     hall: &Hall<MapCargo>,
     pass: &mut Pass<MapCargo>,
     cell: u64,

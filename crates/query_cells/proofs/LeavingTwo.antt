@@ -8,8 +8,8 @@ use Rattle.lock_model.specs.Locks.{Has}
 use Rattle.lock_model.specs.declared.model.Mode.{Mode}
 use Rattle.hall.specs.declared.guards.Form.{Form}
 use Rattle.hall.specs.declared.guards.Form.TheVariants as forms
-use Rattle.hall.specs.declared.view.Kind.{Kind}
-use Rattle.hall.specs.declared.view.Kind.TheVariants as kinds
+use Rattle.hall.specs.declared.view.StepKind.{StepKind}
+use Rattle.hall.specs.declared.view.StepKind.TheVariants as kinds
 use Rattle.hall.specs.declared.view.Shape.{Shape}
 use Rattle.hall.specs.declared.view.Standing.{Standing}
 use Rattle.hall.specs.declared.view.Standing.TheVariants.{Away, Inline}
@@ -55,11 +55,11 @@ back_then : (c : MapCargo) (v u w : View Part) → GoesBack c v u → GoesBack c
 back_then c v u w a b = (both_left v u w a.0 b.0, leads_then c v u w a.1 b.1)
 
 -- one step for a lock changed the standing there alone
-elsewhere_once : (v w : View Part) (kind : Kind) (lock place word : ℕ) (won : Bool) (y : Standing) (part : Part) → w ≡ after_step_at v kind lock place word won y part → ElsewhereSame v w lock
+elsewhere_once : (v w : View Part) (kind : StepKind) (lock place word : ℕ) (won : Bool) (y : Standing) (part : Part) → w ≡ after_step_at v kind lock place word won y part → ElsewhereSame v w lock
 elsewhere_once v w kind lock place word won y part is = λ k ne. ap (λ (z : View Part). standing z k) is ∙ get_or-set_other v.standings lock k y Away ne
 
 -- one step on the lock's word that left the part
-back_once : (c : MapCargo) (v w : View Part) (kind : Kind) (lock word : ℕ) (y : Standing) (part : Part) → is_of_lock kind ≡ true → lock < v.shape.locks → part ≡ v.part → w ≡ after_step v kind lock word true y part → GoesBack c v w
+back_once : (c : MapCargo) (v w : View Part) (kind : StepKind) (lock word : ℕ) (y : Standing) (part : Part) → is_of_lock kind ≡ true → lock < v.shape.locks → part ≡ v.part → w ≡ after_step v kind lock word true y part → GoesBack c v w
 back_once c v w kind lock word y part of near same is = (
   record { part = ap (λ (z : View Part). z.part) is ∙ same; number = ap (λ (z : View Part). z.number) is; quota = ap (λ (z : View Part). z.quota) is; span = ap (λ (z : View Part). z.span) is; taken = ap (λ (z : View Part). z.taken) is },
   leads_once c v w kind lock word true of near (ap (λ (z : View Part). z.shape) is) (elsewhere_once v w kind lock (place_of v lock) word true y part is) (ap (λ (z : View Part). z.steps) is),

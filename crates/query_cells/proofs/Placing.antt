@@ -6,9 +6,9 @@ use mathlib.Core.Logic.{dite}
 use native.Mathlib.Decide.{ℕ_discrete}
 use Rattle.lock_model.specs.Locks.{Has}
 use Rattle.hall.specs.declared.view.View.{View}
-use Rattle.hall.specs.declared.view.Kind.{Kind}
-use Rattle.hall.specs.declared.view.Kind.TheVariants.{LoadCargo, AddCargo, StoreCargo}
-use Rattle.hall.specs.declared.view.Kind.TheVariants as kinds
+use Rattle.hall.specs.declared.view.StepKind.{StepKind}
+use Rattle.hall.specs.declared.view.StepKind.TheVariants.{LoadCargo, AddCargo, StoreCargo}
+use Rattle.hall.specs.declared.view.StepKind.TheVariants as kinds
 use Rattle.hall.specs.declared.view.Shape.{Shape}
 use Rattle.hall.specs.declared.view.StepEntry.{StepEntry}
 use Rattle.hall.specs.declared.view.Standing.{Standing}
@@ -139,7 +139,7 @@ placing_then c v u w q (Late now) maps h more = more_then v u w h record { added
 placing_then c v u w q (Job at result) maps h more = absurd (cc)
 
 -- one step for a lock, on its word or on a slot, leads back
-pub leads_once_at : (c : MapCargo) (v w : View Part) (kind : Kind) (lock place word : ℕ) (won : Bool) → is_of_lock kind ≡ true → place < v.shape.slots + v.shape.locks → w.shape ≡ v.shape → ElsewhereSame v w lock → w.steps ≡ entry_at v kind lock place word won ∷ v.steps → LeadsBack c v w
+pub leads_once_at : (c : MapCargo) (v w : View Part) (kind : StepKind) (lock place word : ℕ) (won : Bool) → is_of_lock kind ≡ true → place < v.shape.slots + v.shape.locks → w.shape ≡ v.shape → ElsewhereSame v w lock → w.steps ≡ entry_at v kind lock place word won ∷ v.steps → LeadsBack c v w
 leads_once_at c v w kind lock place word won of near shape same is =
     let e : StepEntry = entry_at v kind lock place word won in record {
       shape = shape;
@@ -151,7 +151,7 @@ leads_once_at c v w kind lock place word won of near shape same is =
           (λ ne. elsewhere_stood k e (standing w k) of (λ at. ne (sym at)) ∙ same k ne);
     }
 
-pub leads_once : (c : MapCargo) (v w : View Part) (kind : Kind) (lock word : ℕ) (won : Bool) → is_of_lock kind ≡ true → lock < v.shape.locks → w.shape ≡ v.shape → ElsewhereSame v w lock → w.steps ≡ entry_of v kind lock word won ∷ v.steps → LeadsBack c v w
+pub leads_once : (c : MapCargo) (v w : View Part) (kind : StepKind) (lock word : ℕ) (won : Bool) → is_of_lock kind ≡ true → lock < v.shape.locks → w.shape ≡ v.shape → ElsewhereSame v w lock → w.steps ≡ entry_of v kind lock word won ∷ v.steps → LeadsBack c v w
 leads_once c v w kind lock word won of near shape same is = leads_once_at c v w kind lock (place_of v lock) word won of (omega arith) shape same is
 
 -- steps that lead back, one after the other

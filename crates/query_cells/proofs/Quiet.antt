@@ -3,14 +3,14 @@ use Rattle.std.specs.Prelude.{◌≡◌, ◌⊎◌, ℕ, ◌+◌, zero, suc, tru
 use Rattle.std.proofs.Common.{refl, sym, ap, ◌∙◌, ⊎_elim, append_assoc, inl, inr}
 use Rattle.std.proofs.lemmas.List.Elements.{All-nil, All-cons, All-append}
 use Rattle.lock_model.specs.Locks.{Has}
-use Rattle.hall.specs.declared.view.Kind.{Kind}
-use Rattle.hall.specs.declared.view.Kind.TheVariants.{AddCargo, LoadCargo, StoreCargo}
+use Rattle.hall.specs.declared.view.StepKind.{StepKind}
+use Rattle.hall.specs.declared.view.StepKind.TheVariants.{AddCargo, LoadCargo, StoreCargo}
 use Rattle.hall.specs.declared.view.StepEntry.{StepEntry}
 use Rattle.hall.specs.declared.view.View.{View}
 use Rattle.hall.specs.declared.cargo.CargoRule.{Ghosts}
 use Rattle.hall.specs.declared.guards.Form.{Form}
 use Rattle.hall.specs.declared.guards.Form.TheVariants as forms
-use Rattle.hall.specs.declared.view.Kind.TheVariants as kinds
+use Rattle.hall.specs.declared.view.StepKind.TheVariants as kinds
 use Rattle.hall.specs.Views.{entry_at, entry_of}
 use Rattle.reader_slots.specs.declared.Withdrawn.{Withdrawn}
 use Rattle.reader_slots.specs.declared.Withdrawn.TheVariants.{Cleared, GaveBack}
@@ -36,8 +36,8 @@ pub quiet_then : (v u w : View Part) → AddsSteps IsQuiet v u → AddsSteps IsQ
 quiet_then v u w a b = adds_then IsQuiet v u w a b
 
 -- loads and stores of a cell's words
-of_cargo : (k : Kind) (word : ℕ) → (k ≡ LoadCargo) ⊎ (k ≡ StoreCargo) → (looks_in k word ≡ false) × (is_hold k ≡ false)
-of_cargo k word is = ⊎_elim (λ l. (ap (λ (z : Kind). looks_in z word) l, ap is_hold l)) (λ s. (ap (λ (z : Kind). looks_in z word) s, ap is_hold s)) is
+of_cargo : (k : StepKind) (word : ℕ) → (k ≡ LoadCargo) ⊎ (k ≡ StoreCargo) → (looks_in k word ≡ false) × (is_hold k ≡ false)
+of_cargo k word is = ⊎_elim (λ l. (ap (λ (z : StepKind). looks_in z word) l, ap is_hold l)) (λ s. (ap (λ (z : StepKind). looks_in z word) s, ap is_hold s)) is
 
 pub quiet_inside : (c : MapCargo) (cell : ℕ) (v w : View Part) → StaysInCell c cell v w → AddsSteps IsQuiet v w
 quiet_inside c cell v w s = (s.added, s.stand, has_all s.added (λ e has. of_cargo e.kind e.word (s.each e has).kind))

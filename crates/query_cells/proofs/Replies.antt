@@ -4,7 +4,7 @@ use Rattle.std.proofs.Common.{refl, sym, ap, ◌∙◌, subst}
 use Rattle.lock_model.specs.Locks.{Has}
 use Rattle.lock_model.specs.declared.model.Mode.{Mode}
 use Rattle.hall.specs.declared.view.View.{View}
-use Rattle.hall.specs.declared.view.Kind.TheVariants.{LoadCargo, AddCargo}
+use Rattle.hall.specs.declared.view.StepKind.TheVariants.{LoadCargo, AddCargo}
 use Rattle.hall.specs.declared.view.Standing.TheVariants.{Away}
 use Rattle.hall.specs.Cargo.{exclusive_mode}
 use Rattle.hall.specs.Views.{standing, mode_of}

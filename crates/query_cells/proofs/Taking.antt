@@ -5,8 +5,8 @@ use Rattle.std.proofs.Common.{refl, ap, ◌∙◌, subst, ⊎_elim, inl, inr}
 use Rattle.hall.specs.declared.cargo.CargoRule.{Ghosts}
 use Rattle.hall.specs.declared.guards.TryFault.{TryFault}
 use Rattle.hall.specs.declared.guards.TryFault.TheVariants.{Busy, Raced}
-use Rattle.hall.specs.declared.view.Kind.{Kind}
-use Rattle.hall.specs.declared.view.Kind.TheVariants as kinds
+use Rattle.hall.specs.declared.view.StepKind.{StepKind}
+use Rattle.hall.specs.declared.view.StepKind.TheVariants as kinds
 use Rattle.hall.specs.declared.view.Standing.{Standing}
 use Rattle.hall.specs.declared.view.Standing.TheVariants.{Away, Exclusive}
 use Rattle.hall.specs.declared.view.View.{View}
@@ -17,7 +17,7 @@ use Rattle.apply_deferred.specs.Sweeping.{Sweeps}
 use Rattle.shared_mutex.specs.Acquiring.{AnnouncesWriter, ElsewhereSame, FoundReaders, RefusesExclusive, RefusesShared}
 use Rattle.shared_mutex.specs.Refused.{AddsReads, GoesOn, ReadAsReader, ReadAsWriter, goes_on_none, goes_on_once, goes_on_then, joined_as_reader, joined_as_writer, reads_after, swept_goes_on}
 use Rattle.shared_mutex.specs.TriesRefused.{looked_goes_on}
-use Rattle.shared_mutex.specs.Tries.{AddsSteps, AnnouncesAtLast, GivesUp, IsTry, OnlyLooked}
+use Rattle.shared_mutex.specs.Tries.{AddsSteps, AnnouncesAtLast, GivesUp, IsTry, StaysAsItWas}
 use Rattle.shared_mutex.specs.TryLaws.{reader_looked, writer_looked}
 use Rattle.upgrade_mode.specs.Holding.{BeginsUpgrade}
 use Rattle.upgrade_mode.specs.Tries.{RisesAtLast}
@@ -42,10 +42,10 @@ unchanged_none v = record { part = refl; quota = refl; span = refl; taken = refl
 pub unchanged_then : (v u w : View Part) → Unchanged v u → Unchanged u w → Unchanged v w
 unchanged_then v u w a b = record { part = b.part ∙ a.part; quota = b.quota ∙ a.quota; span = b.span ∙ a.span; taken = b.taken ∙ a.taken; goes_on = goes_on_then v u w a.goes_on b.goes_on }
 
-pub unchanged_look : (v w : View Part) (lock : ℕ) → OnlyLooked v lock w → Unchanged v w
+pub unchanged_look : (v w : View Part) (lock : ℕ) → StaysAsItWas v lock w → Unchanged v w
 unchanged_look v w lock looked = record { part = looked.part; quota = looked.quota; span = looked.span; taken = looked.taken; goes_on = looked_goes_on v w lock looked }
 
-unchanged_step : (v w : View Part) (kind : Kind) (lock word : ℕ) (won : Bool) (y : Standing) → w ≡ after_step v kind lock word won y v.part → Unchanged v w
+unchanged_step : (v w : View Part) (kind : StepKind) (lock word : ℕ) (won : Bool) (y : Standing) → w ≡ after_step v kind lock word won y v.part → Unchanged v w
 unchanged_step v w kind lock word won y is = record {
   part = ap (λ (z : View Part). z.part) is;
   quota = ap (λ (z : View Part). z.quota) is;
@@ -54,7 +54,7 @@ unchanged_step v w kind lock word won y is = record {
   goes_on = goes_on_once v w kind lock word won y v.part is;
 }
 
-pub unchanged_once : (v : View Part) (kind : Kind) (lock word : ℕ) → Unchanged v (after_look v kind lock word)
+pub unchanged_once : (v : View Part) (kind : StepKind) (lock word : ℕ) → Unchanged v (after_look v kind lock word)
 unchanged_once v kind lock word = unchanged_step v (after_look v kind lock word) kind lock word false (standing v lock) refl
 
 -- they only became more

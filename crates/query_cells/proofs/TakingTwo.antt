@@ -4,8 +4,8 @@ use Rattle.std.proofs.Common.{refl, sym, ap, ◌∙◌, subst, inl, inr, ⊎_eli
 use Rattle.lock_model.specs.Locks.{Has}
 use Rattle.lock_model.specs.declared.model.Mode.{Mode}
 use Rattle.hall.specs.declared.view.Footprint.{Footprint}
-use Rattle.hall.specs.declared.view.Kind.{Kind}
-use Rattle.hall.specs.declared.view.Kind.TheVariants as kinds
+use Rattle.hall.specs.declared.view.StepKind.{StepKind}
+use Rattle.hall.specs.declared.view.StepKind.TheVariants as kinds
 use Rattle.hall.specs.declared.view.Shape.{Shape}
 use Rattle.hall.specs.declared.view.Standing.{Standing}
 use Rattle.hall.specs.declared.view.Standing.TheVariants.{Away, Inline, Slotted, Undecided, Upgrade, Exclusive}
@@ -47,7 +47,7 @@ use Rattle.query_cells.proofs.Taking.{Unchanged, announced_at_last, gained_later
 abbrev GainsCell : ℕ → View Part → View Part → Type 0
 GainsCell lock v w = Gained lock v w × AddsReads (λ shape number added. GainedBy AnyStep lock number added) v w
 
-gains_by : (v u w : View Part) (lock : ℕ) (kind : Kind) (won : Bool) (word : ℕ) (y : Standing) → Unchanged v u → (ws : List ℕ) × (part : Part) × Learns lock u.part part × (w ≡ after_step u kind lock word won y part) → gains_mode kind won word ≡ true → AddsSteps (IsPatientTry v lock) v w → GainsCell lock v w
+gains_by : (v u w : View Part) (lock : ℕ) (kind : StepKind) (won : Bool) (word : ℕ) (y : Standing) → Unchanged v u → (ws : List ℕ) × (part : Part) × Learns lock u.part part × (w ≡ after_step u kind lock word won y part) → gains_mode kind won word ≡ true → AddsSteps (IsPatientTry v lock) v w → GainsCell lock v w
 gains_by v u w lock kind won word y before gains such patient = (
   gained_later lock v u w before (gained_with kind won y u lock word w gains),
   gained_last AnyStep v u w lock (entry_of u kind lock word won) (any_tries v w lock (adds_as (IsPatientTry v lock) (IsTry v lock) v w (λ e p. p.0) patient)) before.goes_on.more (ap (λ (x : View Part). x.steps) gains.3) such,

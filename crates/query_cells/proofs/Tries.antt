@@ -6,7 +6,7 @@ use Rattle.lock_model.specs.Locks.{Has}
 use Rattle.hall.specs.declared.cargo.CargoRule.{Ghosts}
 use Rattle.hall.specs.declared.guards.TryFault.{TryFault}
 use Rattle.hall.specs.declared.guards.TryFault.TheVariants.{Raced}
-use Rattle.hall.specs.declared.view.Kind.TheVariants.{Load}
+use Rattle.hall.specs.declared.view.StepKind.TheVariants.{Load}
 use Rattle.hall.specs.declared.view.Shape.{Shape}
 use Rattle.hall.specs.declared.view.Standing.TheVariants.{Away}
 use Rattle.hall.specs.declared.view.StepEntry.{StepEntry}

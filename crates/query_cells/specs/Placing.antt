@@ -3,8 +3,8 @@ use Rattle.std.specs.Prelude.{◌≡◌, ◌≢◌, ℕ, ◌+◌, ◌&&◌, Bool
 use Rattle.lock_model.specs.Locks.{Has}
 use Rattle.lock_model.specs.declared.model.Mode.{Mode}
 use Rattle.hall.specs.declared.view.View.{View}
-use Rattle.hall.specs.declared.view.Kind.{Kind}
-use Rattle.hall.specs.declared.view.Kind.TheVariants.{LoadCargo, StoreCargo, AddCargo, Split, Join}
+use Rattle.hall.specs.declared.view.StepKind.{StepKind}
+use Rattle.hall.specs.declared.view.StepKind.TheVariants.{LoadCargo, StoreCargo, AddCargo, Split, Join}
 use Rattle.hall.specs.declared.view.StepEntry.{StepEntry}
 use Rattle.hall.specs.declared.view.Standing.{Standing}
 use Rattle.hall.specs.Cargo.{shared_mode, upgrade_mode, exclusive_mode}
@@ -42,7 +42,7 @@ mode_for (Take key n) said = None
 mode_for Audit said = None
 
 -- a step for a lock, on its word or on a slot, and no step on a word of the cargo
-abbrev pub is_of_lock : Kind → Bool
+abbrev pub is_of_lock : StepKind → Bool
 is_of_lock LoadCargo = false
 is_of_lock StoreCargo = false
 is_of_lock AddCargo = false

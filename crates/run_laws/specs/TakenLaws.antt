@@ -17,7 +17,7 @@ use Rattle.query_rules.specs.declared.query.Reply.TheVariants.{Placed, Busy, Lat
 use Rattle.query_rules.specs.History.{AnswersEachOnce}
 use Rattle.query_rules.specs.Numbers.{IsReply}
 use Rattle.hall.specs.declared.view.Footprint.{Footprint}
-use Rattle.hall.specs.declared.view.Kind.TheVariants.{Join}
+use Rattle.hall.specs.declared.view.StepKind.TheVariants.{Join}
 use Rattle.hall.specs.declared.view.Shape.{Shape}
 use Rattle.hall.specs.declared.view.Standing.TheVariants.{Away}
 use Rattle.hall.specs.declared.view.StepEntry.{StepEntry}

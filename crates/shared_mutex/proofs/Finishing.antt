@@ -4,7 +4,7 @@ use Rattle.lock_model.specs.declared.model.Act.TheVariants as act
 use Rattle.state_word.specs.Words.{retract_of}
 use Rattle.hall.specs.declared.cargo.CargoRule.{Ghosts}
 use Rattle.hall.specs.declared.view.View.{View}
-use Rattle.hall.specs.declared.view.Kind.TheVariants as kinds
+use Rattle.hall.specs.declared.view.StepKind.TheVariants as kinds
 use Rattle.hall.specs.declared.view.Standing.TheVariants.{Away}
 use Rattle.hall.specs.Moves.{Moment}
 use Rattle.hall.specs.Plays.{Holding, HoldMisses, Retracts}

@@ -10,7 +10,7 @@ use Rattle.hall.specs.declared.guards.Form.TheVariants as forms
 use Rattle.hall.specs.declared.guards.SharedGuard.{SharedGuard}
 use Rattle.hall.specs.declared.guards.TryFault.{TryFault}
 use Rattle.hall.specs.declared.guards.TryFault.TheVariants.{Busy, Raced}
-use Rattle.hall.specs.declared.view.Kind.TheVariants as kinds
+use Rattle.hall.specs.declared.view.StepKind.TheVariants as kinds
 use Rattle.hall.specs.declared.view.Shape.{Shape}
 use Rattle.hall.specs.declared.view.Standing.{Standing}
 use Rattle.hall.specs.declared.view.Standing.TheVariants.{Away, Undecided, Owing}

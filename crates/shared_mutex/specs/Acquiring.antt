@@ -12,7 +12,7 @@ use Rattle.hall.specs.declared.guards.Why.TheVariants.{NoDefer, SlotsTaken}
 use Rattle.hall.specs.declared.guards.TryFault.{TryFault}
 use Rattle.hall.specs.declared.guards.TryFault.TheVariants.{Busy, Raced}
 use Rattle.hall.specs.declared.view.View.{View}
-use Rattle.hall.specs.declared.view.Kind.TheVariants as kinds
+use Rattle.hall.specs.declared.view.StepKind.TheVariants as kinds
 use Rattle.hall.specs.declared.view.Standing.TheVariants.{Away}
 pub use Rattle.hall.specs.Calls.{ElsewhereSame, MadeAtMost}
 use Rattle.hall.specs.Moves.{Moment}

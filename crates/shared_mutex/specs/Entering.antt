@@ -9,8 +9,8 @@ use Rattle.hall.specs.declared.cargo.CargoRule.{Ghosts}
 use Rattle.hall.specs.declared.guards.Form.{Form}
 use Rattle.hall.specs.declared.guards.Form.TheVariants as forms
 use Rattle.hall.specs.declared.guards.Why.TheVariants.{NoDefer, SlotsTaken}
-use Rattle.hall.specs.declared.view.Kind.{Kind}
-use Rattle.hall.specs.declared.view.Kind.TheVariants as kinds
+use Rattle.hall.specs.declared.view.StepKind.{StepKind}
+use Rattle.hall.specs.declared.view.StepKind.TheVariants as kinds
 use Rattle.hall.specs.declared.view.Standing.{Standing}
 use Rattle.hall.specs.declared.view.Standing.TheVariants.{Away, Inline, Slotted, Undecided}
 use Rattle.hall.specs.declared.view.StepEntry.{StepEntry}
@@ -32,18 +32,18 @@ use Rattle.shared_mutex.specs.Tries.{AddsSteps, IsPatientTry, is_retract}
 use Rattle.shared_mutex.specs.TryLaws.{adds_as, adds_then, reader_patient}
 
 -- the two steps that let a reader in: the exchange that counts it, and the look that finds that readers may defer
-abbrev pub is_entering : Kind → Bool
+abbrev pub is_entering : StepKind → Bool
 is_entering kinds.Enter = true
 is_entering kinds.Check = true
 is_entering k = false
 
 -- the two by which one leaves
-abbrev pub is_leaving : Kind → Bool
+abbrev pub is_leaving : StepKind → Bool
 is_leaving kinds.Lower = true
 is_leaving kinds.LeaveSlot = true
 is_leaving k = false
 
-entering_patient : (k : Kind) → is_entering k ≡ true → is_retract k ≡ false
+entering_patient : (k : StepKind) → is_entering k ≡ true → is_retract k ≡ false
 entering_patient k e = elim k as (λ z. is_entering z ≡ true → is_retract z ≡ false) [ kinds.Retract ↦ λ h. absurd (cc) | kinds.UpRetract ↦ λ h. absurd (cc) | _ ↦ λ h. refl ] e
 
 module _ {P : Type 0} where
@@ -57,7 +57,7 @@ module _ {C P : Type 0} (g : Ghosts C P) where
     pub before : View P
     pub from : Standing
     pub tried : OnlyTried v lock from before
-    pub kind : Kind
+    pub kind : StepKind
     pub enters : is_entering kind ≡ true
     pub word : ℕ
     pub won : Bool
@@ -129,7 +129,7 @@ module _ {C P : Type 0} (g : Ghosts C P) where
   -- whatever form its hold had
   module _ (v w : View P) (lock : ℕ) (near : lock < length v.standings) where
     -- by one step
-    by_one : (kind : Kind) (place word : ℕ) (x : Standing) (part : P) → standing v lock ≡ x → mode_of x ≡ shared_mode → is_strong x ≡ false → is_leaving kind ≡ true → part ≡ g.lowered lock None v.part → w ≡ after_step_at v kind lock place word true Away part → LeavesLock v lock w
+    by_one : (kind : StepKind) (place word : ℕ) (x : Standing) (part : P) → standing v lock ≡ x → mode_of x ≡ shared_mode → is_strong x ≡ false → is_leaving kind ≡ true → part ≡ g.lowered lock None v.part → w ≡ after_step_at v kind lock place word true Away part → LeavesLock v lock w
     by_one kind place word x part here held weak kinded lost is = record {
       shape = ap (λ (z : View P). z.shape) is;
       number = ap (λ (z : View P). z.number) is;

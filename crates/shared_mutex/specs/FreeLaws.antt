@@ -12,8 +12,8 @@ use Rattle.hall.specs.declared.guards.Form.{Form}
 use Rattle.hall.specs.declared.guards.Form.TheVariants as forms
 use Rattle.hall.specs.declared.guards.TryFault.TheVariants.{Raced}
 use Rattle.hall.specs.declared.guards.Why.TheVariants.{NoDefer, SlotsTaken}
-use Rattle.hall.specs.declared.view.Kind.{Kind}
-use Rattle.hall.specs.declared.view.Kind.TheVariants as kinds
+use Rattle.hall.specs.declared.view.StepKind.{StepKind}
+use Rattle.hall.specs.declared.view.StepKind.TheVariants as kinds
 use Rattle.hall.specs.declared.view.Shape.{Shape}
 use Rattle.hall.specs.declared.view.Standing.{Standing}
 use Rattle.hall.specs.declared.view.Standing.TheVariants.{Away, Inline, Slotted, Undecided, Owing}
@@ -32,7 +32,7 @@ use Rattle.shared_mutex.specs.Tries.{AddsSteps}
 use Rattle.shared_mutex.specs.TryLaws.{adds_then}
 
 -- the kinds of step by which a reader reads the lock's word to decide by it
-abbrev pub is_reading : Kind → Bool
+abbrev pub is_reading : StepKind → Bool
 is_reading kinds.Load = true
 is_reading kinds.Check = true
 is_reading k = false
@@ -51,11 +51,11 @@ lets_in ReadPriority w b h = ap (λ (n : ℕ). n == 1) h
 
 module _ {P : Type 0} (p : Policy) where
   -- a step that reads no word to decide by it, and one that read such a word
-  free_other : (v w : View P) (kind : Kind) (lock place word : ℕ) (won : Bool) (y : Standing) (part : P) → is_reading kind ≡ false → w ≡ after_step_at v kind lock place word won y part → AddsSteps (IsFree p) v w
+  free_other : (v w : View P) (kind : StepKind) (lock place word : ℕ) (won : Bool) (y : Standing) (part : P) → is_reading kind ≡ false → w ≡ after_step_at v kind lock place word won y part → AddsSteps (IsFree p) v w
   free_other v w kind lock place word won y part other is =
       let e : StepEntry = entry_at v kind lock place word won in (e ∷ [], ap (λ (z : View P). z.steps) is, All-cons (IsFree p) e [] (λ reads. absurd (no_both (is_reading kind) other reads)) (All-nil (IsFree p)))
 
-  free_reading : (v w : View P) (kind : Kind) (lock place word : ℕ) (won : Bool) (y : Standing) (part : P) → conflicts_for_shared p word ≡ false → w ≡ after_step_at v kind lock place word won y part → AddsSteps (IsFree p) v w
+  free_reading : (v w : View P) (kind : StepKind) (lock place word : ℕ) (won : Bool) (y : Standing) (part : P) → conflicts_for_shared p word ≡ false → w ≡ after_step_at v kind lock place word won y part → AddsSteps (IsFree p) v w
   free_reading v w kind lock place word won y part free is = let e : StepEntry = entry_at v kind lock place word won in (e ∷ [], ap (λ (z : View P). z.steps) is, All-cons (IsFree p) e [] (λ reads. free) (All-nil (IsFree p)))
 
 module _ {C P : Type 0} (g : Ghosts C P) where

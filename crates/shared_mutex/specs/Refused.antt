@@ -7,8 +7,8 @@ use Rattle.state_word.specs.Words.{units_of}
 use Rattle.hall.specs.declared.cargo.CargoRule.{Ghosts}
 use Rattle.hall.specs.declared.guards.TryFault.{TryFault}
 use Rattle.hall.specs.declared.guards.TryFault.TheVariants.{Busy, Raced}
-use Rattle.hall.specs.declared.view.Kind.{Kind}
-use Rattle.hall.specs.declared.view.Kind.TheVariants as kinds
+use Rattle.hall.specs.declared.view.StepKind.{StepKind}
+use Rattle.hall.specs.declared.view.StepKind.TheVariants as kinds
 use Rattle.hall.specs.declared.view.Shape.{Shape}
 use Rattle.hall.specs.declared.view.Standing.{Standing}
 use Rattle.hall.specs.declared.view.Standing.TheVariants.{Away, Undecided, Owing}
@@ -73,7 +73,7 @@ module _ {P : Type 0} where
   pub goes_on_none : (v w : View P) → w ≡ v → GoesOn v w
   goes_on_none v w same = record { shape = ap (λ (z : View P). z.shape) same; number = ap (λ (z : View P). z.number) same; more = ([], ap (λ (z : View P). z.steps) same) }
 
-  pub goes_on_once : (v w : View P) (kind : Kind) (lock word : ℕ) (won : Bool) (y : Standing) (part : P) → w ≡ after_step v kind lock word won y part → GoesOn v w
+  pub goes_on_once : (v w : View P) (kind : StepKind) (lock word : ℕ) (won : Bool) (y : Standing) (part : P) → w ≡ after_step v kind lock word won y part → GoesOn v w
   goes_on_once v w kind lock word won y part is = record {
     shape = ap (λ (z : View P). z.shape) is;
     number = ap (λ (z : View P). z.number) is;
@@ -102,7 +102,7 @@ module _ {P : Type 0} where
         (joined w.shape w.number a.0 v.steps (subst (λ (n : ℕ). reads w.shape n a.0) (sym number) (subst (λ (s : Shape). reads s v.number a.0) (sym shape) a.2)))
 
   -- a load, and then an exchange that found another word
-  pub two_words : (v w : View P) (lock : ℕ) (kind : Kind) (expected found : ℕ) → (expected ≡ found → ⊥) → w ≡ after_look (after_look v kinds.Load lock expected) kind lock found → AddsReads (λ shape number steps. ReadTwoWords shape number steps lock) v w
+  pub two_words : (v w : View P) (lock : ℕ) (kind : StepKind) (expected found : ℕ) → (expected ≡ found → ⊥) → w ≡ after_look (after_look v kinds.Load lock expected) kind lock found → AddsReads (λ shape number steps. ReadTwoWords shape number steps lock) v w
   two_words v w lock kind expected found differ is =
       let load : StepEntry = entry_of v kinds.Load lock expected false in let exchange : StepEntry = entry_of (after_look v kinds.Load lock expected) kind lock found false in
       let p : ℕ = place_of v lock in let before : Option ℕ = last_read p v.number [] in
@@ -121,7 +121,7 @@ ReadLast lock seen shape number steps = last_read (shape.slots + lock) number st
 
 module _ {P : Type 0} where
   -- one step, on the word at a place of the table
-  pub goes_on_at : (v w : View P) (kind : Kind) (lock place word : ℕ) (won : Bool) (y : Standing) (part : P) → w ≡ after_step_at v kind lock place word won y part → GoesOn v w
+  pub goes_on_at : (v w : View P) (kind : StepKind) (lock place word : ℕ) (won : Bool) (y : Standing) (part : P) → w ≡ after_step_at v kind lock place word won y part → GoesOn v w
   goes_on_at v w kind lock place word won y part is = record {
     shape = ap (λ (z : View P). z.shape) is;
     number = ap (λ (z : View P). z.number) is;

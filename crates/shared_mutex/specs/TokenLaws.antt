@@ -4,8 +4,8 @@ use Rattle.std.proofs.Common.{refl, sym, ap, ◌∙◌, subst, ⊎_elim, inl, in
 use Rattle.hall.specs.declared.cargo.CargoRule.{Ghosts}
 use Rattle.hall.specs.declared.guards.TryFault.{TryFault}
 use Rattle.hall.specs.declared.guards.TryFault.TheVariants.{Busy, Raced}
-use Rattle.hall.specs.declared.view.Kind.{Kind}
-use Rattle.hall.specs.declared.view.Kind.TheVariants as kinds
+use Rattle.hall.specs.declared.view.StepKind.{StepKind}
+use Rattle.hall.specs.declared.view.StepKind.TheVariants as kinds
 use Rattle.hall.specs.declared.view.Standing.{Standing}
 use Rattle.hall.specs.declared.view.Standing.TheVariants.{Away, Undecided, Owing}
 use Rattle.hall.specs.declared.view.View.{View}
@@ -24,7 +24,7 @@ module _ {C P : Type 0} (g : Ghosts C P) (v : View P) (lock : ℕ) (away : stand
   stands_there x u t near = ap (λ (l : List Standing). slice_index_or l lock Away) t.standings ∙ get_or-set_same v.standings lock x Away near
 
   -- a step that left the standing as it was
-  stayed : (x : Standing) (u w : View P) (kind : Kind) (place word : ℕ) → standing u lock ≡ x → OnlyTried v lock x u → is_reader_step kind ≡ true → w ≡ after_step_at u kind lock place word false (standing u lock) u.part → OnlyTried v lock x w
+  stayed : (x : Standing) (u w : View P) (kind : StepKind) (place word : ℕ) → standing u lock ≡ x → OnlyTried v lock x u → is_reader_step kind ≡ true → w ≡ after_step_at u kind lock place word false (standing u lock) u.part → OnlyTried v lock x w
   stayed x u w kind place word here t reads is = subst (λ (y : Standing). OnlyTried v lock y w) here
       (one_more v lock away x (standing u lock) u w kind place word false u.part t reads (inl refl) (ap mode_of here ∙ t.outside.0) (ap is_strong here ∙ t.outside.1) refl is)
 

@@ -3,8 +3,8 @@ use Rattle.std.specs.Prelude.{◌≡◌, ◌⊎◌, ℕ, zero, suc, ◌<◌, ◌
 use Rattle.std.proofs.Common.{refl, sym, ap, ◌∙◌, subst, inr, append_assoc}
 use Rattle.std.proofs.lemmas.List.{set-set, set-get_or}
 use Rattle.std.proofs.lemmas.List.Elements.{All-nil, All-cons, All-append}
-use Rattle.hall.specs.declared.view.Kind.{Kind}
-use Rattle.hall.specs.declared.view.Kind.TheVariants as kinds
+use Rattle.hall.specs.declared.view.StepKind.{StepKind}
+use Rattle.hall.specs.declared.view.StepKind.TheVariants as kinds
 use Rattle.hall.specs.declared.view.Standing.{Standing}
 use Rattle.hall.specs.declared.view.Standing.TheVariants.{Away, Undecided, Owing}
 use Rattle.hall.specs.declared.view.StepEntry.{StepEntry}
@@ -13,7 +13,7 @@ use Rattle.hall.specs.Treading.{IsBetween, IsWeakAt, Treads, treads_as, treads_n
 use Rattle.hall.specs.Views.{after_step_at, entry_at, is_strong, mode_of, standing}
 
 -- the kinds of step of a reader's try that is refused: it looks, finds slots taken, places a token and takes it back, or misses an exchange
-abbrev pub is_reader_step : Kind → Bool
+abbrev pub is_reader_step : StepKind → Bool
 is_reader_step kinds.Load = true
 is_reader_step kinds.Enter = true
 is_reader_step kinds.PlaceSlot = true
@@ -23,7 +23,7 @@ is_reader_step kinds.Lower = true
 is_reader_step k = false
 
 -- those of them that may change a word: a token is placed, and taken back or paid for
-abbrev pub is_token_step : Kind → Bool
+abbrev pub is_token_step : StepKind → Bool
 is_token_step kinds.PlaceSlot = true
 is_token_step kinds.WithdrawSlot = true
 is_token_step kinds.Lower = true
@@ -73,7 +73,7 @@ module _ {P : Type 0} where
     }
 
     -- one step more
-    pub one_more : (x y : Standing) (u w : View P) (kind : Kind) (place word : ℕ) (won : Bool) (part : P) → OnlyTried v lock x u → is_reader_step kind ≡ true → (won ≡ false) ⊎ (is_token_step kind ≡ true) → mode_of y ≡ None → is_strong y ≡ false → part ≡ u.part → w ≡ after_step_at u kind lock place word won y part → OnlyTried v lock y w
+    pub one_more : (x y : Standing) (u w : View P) (kind : StepKind) (place word : ℕ) (won : Bool) (part : P) → OnlyTried v lock x u → is_reader_step kind ≡ true → (won ≡ false) ⊎ (is_token_step kind ≡ true) → mode_of y ≡ None → is_strong y ≡ false → part ≡ u.part → w ≡ after_step_at u kind lock place word won y part → OnlyTried v lock y w
     one_more x y u w kind place word won part t token vain free weak still is =
         let e : StepEntry = entry_at u kind lock place word won in
         let here : standing u lock ≡ slice_index_or (slice_set v.standings lock x) lock Away = ap (λ (l : List Standing). slice_index_or l lock Away) t.standings in

@@ -5,8 +5,8 @@ use Rattle.hall.specs.declared.cargo.CargoRule.{Ghosts}
 use Rattle.hall.specs.declared.guards.Form.{Form}
 use Rattle.hall.specs.declared.guards.TryFault.{TryFault}
 use Rattle.hall.specs.declared.guards.TryFault.TheVariants.{Busy, Raced}
-use Rattle.hall.specs.declared.view.Kind.{Kind}
-use Rattle.hall.specs.declared.view.Kind.TheVariants as kinds
+use Rattle.hall.specs.declared.view.StepKind.{StepKind}
+use Rattle.hall.specs.declared.view.StepKind.TheVariants as kinds
 use Rattle.hall.specs.declared.view.Standing.{Standing}
 use Rattle.hall.specs.declared.view.Standing.TheVariants.{Away, Inline, Exclusive, Announcing}
 use Rattle.hall.specs.declared.view.View.{View}
@@ -18,21 +18,21 @@ use Rattle.apply_deferred.specs.SweepLaws.{sweep_goes}
 use Rattle.apply_deferred.specs.Sweeping.{Sweeps}
 use Rattle.shared_mutex.specs.Acquiring.{AnnouncesWriter, FoundReaders, LeavesShared, RefusesAnnouncing, RefusesExclusive, RefusesShared, TakesExclusive, TakesShared}
 use Rattle.shared_mutex.specs.Entering.{enters_last, enters_weakly, leaves_lock}
-use Rattle.shared_mutex.specs.Tries.{AnnouncesAtLast, EntersAtLast, GivesUp, HoldsAtLast, OnlyLooked, WritesAtLast}
+use Rattle.shared_mutex.specs.Tries.{AnnouncesAtLast, EntersAtLast, GivesUp, HoldsAtLast, StaysAsItWas, WritesAtLast}
 use Rattle.shared_mutex.specs.TryLaws.{looked_once, reader_looked, stands_still, writer_looked}
 
 module _ {P : Type 0} (v w : View P) (lock : ℕ) where
-  pub looked_weak : standing v lock ≡ Away → OnlyLooked v lock w → Treads (IsWeakAt lock) v w
+  pub looked_weak : standing v lock ≡ Away → StaysAsItWas v lock w → Treads (IsWeakAt lock) v w
   looked_weak away l = treads_as (IsBetween lock (standing v lock) (standing v lock)) (IsWeakAt lock) v w (λ m. weak_between lock (standing v lock) (standing v lock) m (ap (λ x. is_strong x || is_strong x) away)) l.trail
 
-  pub looked_at : OnlyLooked v lock w → Treads (IsAt lock) v w
+  pub looked_at : StaysAsItWas v lock w → Treads (IsAt lock) v w
   looked_at l = treads_as (IsBetween lock (standing v lock) (standing v lock)) (IsAt lock) v w (λ m p. p.0) l.trail
 
   -- one step that changes the standing
-  step_at : (kind : Kind) (word : ℕ) (won : Bool) (y : Standing) (part : P) → w ≡ after_step v kind lock word won y part → Treads (IsAt lock) v w
+  step_at : (kind : StepKind) (word : ℕ) (won : Bool) (y : Standing) (part : P) → w ≡ after_step v kind lock word won y part → Treads (IsAt lock) v w
   step_at kind word won y part is = treads_as (IsBetween lock (standing v lock) y) (IsAt lock) v w (λ m p. p.0) (treads_step v w kind lock word won y part is)
 
-  step_weak : (kind : Kind) (word : ℕ) (won : Bool) (y : Standing) (part : P) → (is_strong (standing v lock) || is_strong y) ≡ false → w ≡ after_step v kind lock word won y part → Treads (IsWeakAt lock) v w
+  step_weak : (kind : StepKind) (word : ℕ) (won : Bool) (y : Standing) (part : P) → (is_strong (standing v lock) || is_strong y) ≡ false → w ≡ after_step v kind lock word won y part → Treads (IsWeakAt lock) v w
   step_weak kind word won y part weak is = treads_as (IsBetween lock (standing v lock) y) (IsWeakAt lock) v w (λ m. weak_between lock (standing v lock) y m weak) (treads_step v w kind lock word won y part is)
 
 module _ {C P : Type 0} (g : Ghosts C P) (v w : View P) (lock : ℕ) where

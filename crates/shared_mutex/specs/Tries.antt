@@ -3,8 +3,8 @@ use Rattle.std.specs.Prelude.{◌≡◌, ◌⊎◌, ℕ, Bool, true, false, List
 use Rattle.hall.specs.declared.cargo.CargoRule.{Ghosts}
 use Rattle.hall.specs.declared.guards.TryFault.{TryFault}
 use Rattle.hall.specs.declared.guards.TryFault.TheVariants.{Busy, Raced}
-use Rattle.hall.specs.declared.view.Kind.{Kind}
-use Rattle.hall.specs.declared.view.Kind.TheVariants as kinds
+use Rattle.hall.specs.declared.view.StepKind.{StepKind}
+use Rattle.hall.specs.declared.view.StepKind.TheVariants as kinds
 use Rattle.hall.specs.declared.view.StepEntry.{StepEntry}
 use Rattle.hall.specs.declared.view.View.{View}
 use Rattle.hall.specs.Plays.{HoldMisses, Holding, Retracts}
@@ -21,7 +21,7 @@ AllRefused {V} refuses v [] w = w ≡ v
 AllRefused {V} refuses v (fault ∷ faults) w = (u : V) × AllRefused refuses v faults u × refuses u w fault
 
 -- a step that takes an announcement back, from outside or from upgrade
-abbrev pub is_retract : Kind → Bool
+abbrev pub is_retract : StepKind → Bool
 is_retract kinds.Retract = true
 is_retract kinds.UpRetract = true
 is_retract kind = false
@@ -44,7 +44,7 @@ module _ {P : Type 0} where
   AddsSteps is v w = (added : List StepEntry) × (w.steps ≡ added ++ v.steps) × All is added
 
   -- looks at a lock, and tokens that were taken back, add their steps and footprints, and change nothing else of the pass
-  pub record OnlyLooked (v : View P) (lock : ℕ) (w : View P) : Type 0 where
+  pub record StaysAsItWas (v : View P) (lock : ℕ) (w : View P) : Type 0 where
     pub shape : w.shape ≡ v.shape
     pub number : w.number ≡ v.number
     pub span : w.span ≡ v.span
@@ -58,7 +58,7 @@ module _ {P : Type 0} where
 module _ {P : Type 0} (misses : View P → View P → TryFault → Type 0) (wins : View P → View P → Type 0) where
   -- after tries that were refused with these faults, and that left the pass as it was, a try won
   abbrev pub WinsAtLast : View P → ℕ → List TryFault → View P → Type 0
-  WinsAtLast v lock faults w = (u : View P) × AllRefused misses v faults u × OnlyLooked v lock u × wins u w
+  WinsAtLast v lock faults w = (u : View P) × AllRefused misses v faults u × StaysAsItWas v lock u × wins u w
 
 module _ {C P : Type 0} (g : Ghosts C P) where
   -- tries to enter that were refused with these faults
@@ -100,4 +100,4 @@ module _ {C P : Type 0} (g : Ghosts C P) where
 
   -- a writer was announced at last, met readers at each of some tries, and then took its announcement back
   abbrev pub GivesUp : View P → ℕ → List TryFault → List TryFault → View P → Type 0
-  GivesUp v lock faults misses w = (a : View P) × AnnouncesAtLast v lock faults a × ((u : View P) × ReadersMet lock a misses u × OnlyLooked a lock u × ((found : ℕ) × Retracts g u lock found w))
+  GivesUp v lock faults misses w = (a : View P) × AnnouncesAtLast v lock faults a × ((u : View P) × ReadersMet lock a misses u × StaysAsItWas a lock u × ((found : ℕ) × Retracts g u lock found w))

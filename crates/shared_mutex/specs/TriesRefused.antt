@@ -4,30 +4,30 @@ use Rattle.std.proofs.Common.{◌∙◌}
 use Rattle.hall.specs.declared.cargo.CargoRule.{Ghosts}
 use Rattle.hall.specs.declared.guards.TryFault.{TryFault}
 use Rattle.hall.specs.declared.guards.TryFault.TheVariants.{Busy, Raced}
-use Rattle.hall.specs.declared.view.Kind.TheVariants as kinds
+use Rattle.hall.specs.declared.view.StepKind.TheVariants as kinds
 use Rattle.hall.specs.declared.view.Standing.TheVariants.{Away}
 use Rattle.hall.specs.declared.view.View.{View}
 use Rattle.hall.specs.Plays.{Retracts}
 use Rattle.hall.specs.Views.{standing}
 use Rattle.shared_mutex.specs.Refused.{AddsReads, GoesOn, ReadAsReader, ReadAsWriter, announced_goes_on, announcing_refused, goes_on_once, goes_on_then, joined_as_reader, joined_as_writer, meets_readers, reader_refused, reads_after, reads_then, still_as_writer, swept_goes_on}
-use Rattle.shared_mutex.specs.Tries.{AnnouncesAtLast, GivesUp, MeetsReaders, OnlyLooked, ReadersRefused, WritersRefused}
+use Rattle.shared_mutex.specs.Tries.{AnnouncesAtLast, GivesUp, MeetsReaders, StaysAsItWas, ReadersRefused, WritersRefused}
 use Rattle.shared_mutex.specs.TryLaws.{meetings_looked, readers_looked, stands_still, writers_looked}
 
 module _ {P : Type 0} where
-  pub looked_goes_on : (v w : View P) (lock : ℕ) → OnlyLooked v lock w → GoesOn v w
+  pub looked_goes_on : (v w : View P) (lock : ℕ) → StaysAsItWas v lock w → GoesOn v w
   looked_goes_on v w lock looked = record { shape = looked.shape; number = looked.number; more = (looked.steps.0, looked.steps.1) }
 
 module _ {C P : Type 0} (g : Ghosts C P) where
   -- tries to enter
   pub readers_refused : (v : View P) (lock : ℕ) (w : View P) (fault : TryFault) (faults : List TryFault) → standing v lock ≡ Away → ReadersRefused g lock v (fault ∷ faults) w → AddsReads (ReadAsReader lock fault) v w
   readers_refused v lock w fault faults away r =
-      let u : View P = r.0 in let looked : OnlyLooked v lock u = readers_looked g v lock u faults r.1 in
+      let u : View P = r.0 in let looked : StaysAsItWas v lock u = readers_looked g v lock u faults r.1 in
       reads_after (ReadAsReader lock fault) (joined_as_reader lock fault) v u w (looked_goes_on v u lock looked) (reader_refused g u lock w fault (stands_still v u lock looked ∙ away) r.2)
 
   -- tries to announce a writer
   pub writers_refused : (v : View P) (lock : ℕ) (w : View P) (fault : TryFault) (faults : List TryFault) → standing v lock ≡ Away → WritersRefused g lock v (fault ∷ faults) w → AddsReads (ReadAsWriter lock fault) v w
   writers_refused v lock w fault faults away r =
-      let u : View P = r.0 in let looked : OnlyLooked v lock u = writers_looked g v lock u faults r.1 in
+      let u : View P = r.0 in let looked : StaysAsItWas v lock u = writers_looked g v lock u faults r.1 in
       reads_after (ReadAsWriter lock fault) (joined_as_writer lock fault) v u w (looked_goes_on v u lock looked) (announcing_refused g u lock w fault (stands_still v u lock looked ∙ away) r.2)
 
   -- a writer that was announced at last

@@ -6,8 +6,8 @@ use Rattle.std.proofs.lemmas.List.Elements.{All-nil, All-cons, All-append}
 use Rattle.hall.specs.declared.cargo.CargoRule.{Ghosts}
 use Rattle.hall.specs.declared.guards.TryFault.{TryFault}
 use Rattle.hall.specs.declared.guards.TryFault.TheVariants.{Busy, Raced}
-use Rattle.hall.specs.declared.view.Kind.{Kind}
-use Rattle.hall.specs.declared.view.Kind.TheVariants as kinds
+use Rattle.hall.specs.declared.view.StepKind.{StepKind}
+use Rattle.hall.specs.declared.view.StepKind.TheVariants as kinds
 use Rattle.hall.specs.declared.view.Standing.{Standing}
 use Rattle.hall.specs.declared.view.Standing.TheVariants.{Away}
 use Rattle.hall.specs.declared.view.StepEntry.{StepEntry}
@@ -18,10 +18,10 @@ use Rattle.reader_slots.specs.Deferring.{first_slot, second_slot}
 use Rattle.shared_mutex.specs.Acquiring.{ElsewhereSame, RefusesShared, RefusesAnnouncing}
 use Rattle.shared_mutex.specs.TokenLaws.{turned_back}
 use Rattle.shared_mutex.specs.Tokens.{IsReaderStep, OnlyTried, is_reader_step}
-use Rattle.shared_mutex.specs.Tries.{AllRefused, AddsSteps, IsLook, MeetsReaders, OnlyLooked, ReadersMet, ReadersRefused, WinsAtLast, WritersRefused, is_retract}
+use Rattle.shared_mutex.specs.Tries.{AllRefused, AddsSteps, IsLook, MeetsReaders, StaysAsItWas, ReadersMet, ReadersRefused, WinsAtLast, WritersRefused, is_retract}
 
 -- no step of a reader that is outside takes an announcement back
-pub reader_patient : (k : Kind) → is_reader_step k ≡ true → is_retract k ≡ false
+pub reader_patient : (k : StepKind) → is_reader_step k ≡ true → is_retract k ≡ false
 reader_patient k e = elim k as (λ z. is_reader_step z ≡ true → is_retract z ≡ false) [ kinds.Retract ↦ λ h. absurd (cc) | kinds.UpRetract ↦ λ h. absurd (cc) | _ ↦ λ h. refl ] e
 
 no_both : (b : Bool) → b ≡ false → b ≡ true → ⊥
@@ -38,7 +38,7 @@ module _ {P : Type 0} where
   adds_as is so v w each a = (a.0, a.1, λ k d lt. each (slice_index_or a.0 k d) (a.2 k d lt))
 
   -- no look
-  pub looked_none : (v w : View P) (lock : ℕ) → w ≡ v → OnlyLooked v lock w
+  pub looked_none : (v w : View P) (lock : ℕ) → w ≡ v → StaysAsItWas v lock w
   looked_none v w lock same = record {
     shape = ap (λ (z : View P). z.shape) same;
     number = ap (λ (z : View P). z.number) same;
@@ -52,7 +52,7 @@ module _ {P : Type 0} where
   }
 
   -- one look, on the word at a place of the table
-  pub looked_once_at : (v w : View P) (kind : Kind) (lock place word : ℕ) → is_retract kind ≡ false → w ≡ after_step_at v kind lock place word false (standing v lock) v.part → OnlyLooked v lock w
+  pub looked_once_at : (v w : View P) (kind : StepKind) (lock place word : ℕ) → is_retract kind ≡ false → w ≡ after_step_at v kind lock place word false (standing v lock) v.part → StaysAsItWas v lock w
   looked_once_at v w kind lock place word patient is = record {
     shape = ap (λ (z : View P). z.shape) is;
     number = ap (λ (z : View P). z.number) is;
@@ -70,11 +70,11 @@ module _ {P : Type 0} where
   }
 
   -- and on the lock's own
-  pub looked_once : (v w : View P) (kind : Kind) (lock word : ℕ) → is_retract kind ≡ false → w ≡ after_look v kind lock word → OnlyLooked v lock w
+  pub looked_once : (v w : View P) (kind : StepKind) (lock word : ℕ) → is_retract kind ≡ false → w ≡ after_look v kind lock word → StaysAsItWas v lock w
   looked_once v w kind lock word patient is = looked_once_at v w kind lock (place_of v lock) word patient is
 
   -- a token that was taken back
-  pub tried_looked : (v w : View P) (lock : ℕ) → standing v lock ≡ Away → OnlyTried v lock Away w → OnlyLooked v lock w
+  pub tried_looked : (v w : View P) (lock : ℕ) → standing v lock ≡ Away → OnlyTried v lock Away w → StaysAsItWas v lock w
   tried_looked v w lock away t = record {
     shape = t.shape;
     number = t.number;
@@ -88,7 +88,7 @@ module _ {P : Type 0} where
   }
 
   -- looks after looks
-  pub looked_then : (v u w : View P) (lock : ℕ) → OnlyLooked v lock u → OnlyLooked u lock w → OnlyLooked v lock w
+  pub looked_then : (v u w : View P) (lock : ℕ) → StaysAsItWas v lock u → StaysAsItWas u lock w → StaysAsItWas v lock w
   looked_then v u w lock a b =
       let stands : standing u lock ≡ standing v lock = ap (λ (l : List Standing). slice_index_or l lock Away) a.standings in record {
         shape = b.shape ∙ a.shape;
@@ -104,11 +104,11 @@ module _ {P : Type 0} where
       }
 
   -- after looks the pass stands where it did
-  pub stands_still : (v u : View P) (lock : ℕ) → OnlyLooked v lock u → standing u lock ≡ standing v lock
+  pub stands_still : (v u : View P) (lock : ℕ) → StaysAsItWas v lock u → standing u lock ≡ standing v lock
   stands_still v u lock looked = ap (λ (l : List Standing). slice_index_or l lock Away) looked.standings
 
   -- and what then stayed elsewhere had stayed from the start
-  pub still_elsewhere : (v u w : View P) (lock : ℕ) → OnlyLooked v lock u → ElsewhereSame u w lock → ElsewhereSame v w lock
+  pub still_elsewhere : (v u w : View P) (lock : ℕ) → StaysAsItWas v lock u → ElsewhereSame u w lock → ElsewhereSame v w lock
   still_elsewhere v u w lock looked same = λ k ne. same k ne ∙ ap (λ (l : List Standing). slice_index_or l k Away) looked.standings
 
 module _ {V : Type 0} (misses : V → V → TryFault → Type 0) where
@@ -123,9 +123,9 @@ module _ {V : Type 0} (misses : V → V → TryFault → Type 0) where
   all_counted count each v w (f ∷ fs) r = omega (arith, each r.0 w f r.2, all_counted count each v r.0 fs r.1)
 
 -- where each refused try only looked
-module _ {P : Type 0} (misses : View P → View P → TryFault → Type 0) (lock : ℕ) (each : (u w : View P) (f : TryFault) → misses u w f → OnlyLooked u lock w) where
+module _ {P : Type 0} (misses : View P → View P → TryFault → Type 0) (lock : ℕ) (each : (u w : View P) (f : TryFault) → misses u w f → StaysAsItWas u lock w) where
   -- all of them only looked
-  pub all_looked : (v w : View P) (fs : List TryFault) → AllRefused misses v fs w → OnlyLooked v lock w
+  pub all_looked : (v w : View P) (fs : List TryFault) → AllRefused misses v fs w → StaysAsItWas v lock w
   all_looked v w [] r = looked_none v w lock r
   all_looked v w (f ∷ fs) r = looked_then v r.0 w lock (all_looked v r.0 fs r.1) (each r.0 w f r.2)
 
@@ -134,10 +134,10 @@ module _ {P : Type 0} (misses : View P → View P → TryFault → Type 0) (lock
   wins_then wins v u w fs gs a e = (e.0, refused_then misses v u e.0 fs gs a e.1, looked_then v u e.0 lock (all_looked v u fs a) e.2, e.3)
 
 module _ {C P : Type 0} (g : Ghosts C P) where
-  pub reader_looked : (v : View P) (lock : ℕ) (w : View P) (f : TryFault) → RefusesShared g v lock w f → OnlyLooked v lock w
+  pub reader_looked : (v : View P) (lock : ℕ) (w : View P) (f : TryFault) → RefusesShared g v lock w f → StaysAsItWas v lock w
   reader_looked v lock w (Busy word) r = ⊎_elim (λ a. looked_once v w kinds.Load lock word refl a) (λ b. tried_looked v w lock b.1.1 (turned_back g v lock b.1.1 w b.0 word b.1)) r.1
   reader_looked v lock w (Raced expected found) r =
-      let l : View P = after_look v kinds.Load lock expected in let first : OnlyLooked v lock l = looked_once v l kinds.Load lock expected refl refl in
+      let l : View P = after_look v kinds.Load lock expected in let first : StaysAsItWas v lock l = looked_once v l kinds.Load lock expected refl refl in
       ⊎_elim
       (λ a. looked_then v l w lock first (looked_once l w kinds.Enter lock found refl a.1))
       (λ bc. ⊎_elim
@@ -149,20 +149,20 @@ module _ {C P : Type 0} (g : Ghosts C P) where
       bc)
       r.2
 
-  pub writer_looked : (v : View P) (lock : ℕ) (w : View P) (f : TryFault) → RefusesAnnouncing g v lock w f → OnlyLooked v lock w
+  pub writer_looked : (v : View P) (lock : ℕ) (w : View P) (f : TryFault) → RefusesAnnouncing g v lock w f → StaysAsItWas v lock w
   writer_looked v lock w (Busy word) r = looked_once v w kinds.Load lock word refl r.1
   writer_looked v lock w (Raced expected found) r = looked_then v (after_look v kinds.Load lock expected) w lock (looked_once v (after_look v kinds.Load lock expected) kinds.Load lock expected refl refl) (looked_once (after_look v kinds.Load lock expected) w kinds.Announce lock found refl r.1)
 
-  pub meeting_looked : (v : View P) (lock : ℕ) (w : View P) (f : TryFault) → MeetsReaders g v lock w f → OnlyLooked v lock w
+  pub meeting_looked : (v : View P) (lock : ℕ) (w : View P) (f : TryFault) → MeetsReaders g v lock w f → StaysAsItWas v lock w
   meeting_looked v lock w (Busy word) r = looked_once v w kinds.Hold lock word refl r.0.1.0
   meeting_looked v lock w (Raced expected found) r = absurd r
 
   -- readers, writers and announced writers that were refused only looked
-  pub readers_looked : (v : View P) (lock : ℕ) (w : View P) (fs : List TryFault) → ReadersRefused g lock v fs w → OnlyLooked v lock w
+  pub readers_looked : (v : View P) (lock : ℕ) (w : View P) (fs : List TryFault) → ReadersRefused g lock v fs w → StaysAsItWas v lock w
   readers_looked v lock w fs r = all_looked (λ v w f. RefusesShared g v lock w f) lock (λ u w f. reader_looked u lock w f) v w fs r
 
-  pub writers_looked : (v : View P) (lock : ℕ) (w : View P) (fs : List TryFault) → WritersRefused g lock v fs w → OnlyLooked v lock w
+  pub writers_looked : (v : View P) (lock : ℕ) (w : View P) (fs : List TryFault) → WritersRefused g lock v fs w → StaysAsItWas v lock w
   writers_looked v lock w fs r = all_looked (λ v w f. RefusesAnnouncing g v lock w f) lock (λ u w f. writer_looked u lock w f) v w fs r
 
-  pub meetings_looked : (v : View P) (lock : ℕ) (w : View P) (fs : List TryFault) → ReadersMet g lock v fs w → OnlyLooked v lock w
+  pub meetings_looked : (v : View P) (lock : ℕ) (w : View P) (fs : List TryFault) → ReadersMet g lock v fs w → StaysAsItWas v lock w
   meetings_looked v lock w fs r = all_looked (λ v w f. MeetsReaders g v lock w f) lock (λ u w f. meeting_looked u lock w f) v w fs r

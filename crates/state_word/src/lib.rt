@@ -9,6 +9,7 @@
 
 ghost use Rattle.std.specs.Prelude.{◌≡◌, ◌≢◌, ◌+◌, ◌*◌, ◌<◌, ◌≤◌, ◌↔◌, ℕ, IsTrue};
 ghost use Rattle.std.specs.Int.{w32, cast_signed};
+ghost use Rattle.state_word.specs.declared.TheConstants.{COUNTS, FIRST_NEGATIVE, MOST_COUNTED};
 ghost use Rattle.state_word.specs.Words.{may_defer_of, upgrade_of, begun_of, held_of, units_of, is_deep, enter_of, lower_of, announce_of, hold_of, retract_of, release_of, up_of, down_of, to_shared_of, to_upgrade_of, add_of};
 
 use std::marker::Model;
@@ -26,8 +27,26 @@ pub const BEGUN: u64 = 4;
 /// Set exactly while a seat holds the lock exclusively. Then no reader is inside, and the count is 0.
 pub const HELD: u64 = 8;
 
+/// The lowest of the bits that stay 0, which lie between HELD and the count.
+pub const FIRST_IDLE: u64 = 16;
+
+/// As many numbers as the bits that stay 0 could write.
+pub const IDLE_FIELDS: u64 = 1 << 28;
+
 /// One inline reader. The count stands in the upper half of the word, in two's complement.
 pub const ONE: u64 = 1 << 32;
+
+/// As many counts as the upper half of a word can write.
+pub const COUNTS: u64 = 1 << 32;
+
+/// The upper half of a word that stands for the least count, -2^31; those above it stand for counts below 0 too.
+pub const FIRST_NEGATIVE: u64 = 1 << 31;
+
+/// The greatest count. A reader that would go past it is not let in.
+pub const MOST_COUNTED: u64 = FIRST_NEGATIVE - 1;
+
+/// As many state words as there are.
+pub const WORDS: u128 = 1 << 64;
 
 /// A state word. Bits 4 to 31 are 0 in every word that a hall shows.
 #[derive(Clone, Copy, Debug, PartialEq, Eq, Hash)]
@@ -82,12 +101,12 @@ impl Word {
     /// One more inline reader. The third one and each after it lets readers defer, unless a writer is announced.
     pub fn enter(self) -> Word
         requires held { held_of self ≡ 0 }
-        requires room { units_of self ≢ 2147483647 }
+        requires room { units_of self ≢ MOST_COUNTED }
         ensures { result ≡ enter_of self }
     {
         let more = self.0.wrapping_add(ONE);
         let units = self.0 / ONE;
-        if 1 < units && units < 1 << 31 && !self.begun() {
+        if 1 < units && units < FIRST_NEGATIVE && !self.begun() {
             Word(more + (1 - self.0 % 2))
         } else {
             Word(more)
@@ -96,7 +115,7 @@ impl Word {
 
     /// One inline reader fewer.
     pub fn lower(self) -> Word
-        requires { units_of self ≢ 2147483648 }
+        requires { units_of self ≢ FIRST_NEGATIVE }
         ensures { result ≡ lower_of self }
     {
         Word(self.0.wrapping_sub(ONE))
@@ -158,7 +177,7 @@ impl Word {
     /// The upgrade or exclusive holder becomes one more inline reader.
     pub fn to_shared(self) -> Word
         requires strong { 1 ≤ upgrade_of self + held_of self }
-        requires room { units_of self ≢ 2147483647 }
+        requires room { units_of self ≢ MOST_COUNTED }
         ensures { result ≡ to_shared_of self }
     {
         let held = if self.held() { HELD } else { 0 };
@@ -178,7 +197,7 @@ impl Word {
     /// So many more inline readers.
     pub fn add(self, n: u32) -> Word
         // The sum of the count and n is below 2^31: units from 2^31 on stand for negative counts.
-        requires { (units_of self < 2147483648 → units_of self + n < 2147483648) × (2147483648 ≤ units_of self → units_of self + n < 6442450944) }
+        requires { (units_of self < FIRST_NEGATIVE → units_of self + n < FIRST_NEGATIVE) × (FIRST_NEGATIVE ≤ units_of self → units_of self + n < COUNTS + FIRST_NEGATIVE) }
         ensures { result ≡ add_of self n }
     {
         Word(self.0.wrapping_add(u64::from(n) * ONE))

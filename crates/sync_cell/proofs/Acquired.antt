@@ -9,8 +9,8 @@ use Rattle.std.proofs.lemmas.List.Elements.{All-nil, All-cons}
 use Rattle.hall.specs.declared.cargo.CargoRule.{Ghosts}
 use Rattle.hall.specs.declared.guards.Form.{Form}
 use Rattle.hall.specs.declared.guards.TryFault.{TryFault}
-use Rattle.hall.specs.declared.view.Kind.{Kind}
-use Rattle.hall.specs.declared.view.Kind.TheVariants as kinds
+use Rattle.hall.specs.declared.view.StepKind.{StepKind}
+use Rattle.hall.specs.declared.view.StepKind.TheVariants as kinds
 use Rattle.hall.specs.declared.view.Shape.{Shape}
 use Rattle.hall.specs.declared.view.Standing.{Standing}
 use Rattle.hall.specs.declared.view.Standing.TheVariants.{Away, Upgrade, Announcing}
@@ -18,7 +18,7 @@ use Rattle.hall.specs.declared.view.View.{View}
 use Rattle.hall.specs.Plays.{Retracts}
 use Rattle.hall.specs.Cargo.{upgrade_mode}
 use Rattle.hall.specs.Views.{after_look, after_step, entry_of, mode_of, standing}
-use Rattle.shared_mutex.specs.Tries.{AddsSteps, AnnouncesAtLast, HoldsAtLast, IsLook, IsPatientTry, IsTry, OnlyLooked, is_retract}
+use Rattle.shared_mutex.specs.Tries.{AddsSteps, AnnouncesAtLast, HoldsAtLast, IsLook, IsPatientTry, IsTry, StaysAsItWas, is_retract}
 use Rattle.upgrade_mode.specs.Tries.{BeginsAtLast, EntersUpgradeAtLast, HoldsUpAtLast}
 use Rattle.sync_cell.specs.Rising.{IsPatient, IsPatientRise}
 use Rattle.shared_mutex.specs.Entering.{enters_last, enters_patiently}
@@ -33,13 +33,13 @@ module _ {P : Type 0} where
   kept_then : (v u w : View P) → Kept v u → Kept u w → Kept v w
   kept_then v u w a b = (b.0 ∙ a.0, b.1 ∙ a.1)
 
-  kept_looked : (v w : View P) (lock : ℕ) → OnlyLooked v lock w → Kept v w
+  kept_looked : (v w : View P) (lock : ℕ) → StaysAsItWas v lock w → Kept v w
   kept_looked v w lock looked = (looked.number, looked.shape)
 
-  kept_step : (v w : View P) (kind : Kind) (lock word : ℕ) (y : Standing) (part : P) → w ≡ after_step v kind lock word true y part → Kept v w
+  kept_step : (v w : View P) (kind : StepKind) (lock word : ℕ) (y : Standing) (part : P) → w ≡ after_step v kind lock word true y part → Kept v w
   kept_step v w kind lock word y part is = (ap (λ (z : View P). z.number) is, ap (λ (z : View P). z.shape) is)
 
-sweeping_patient : (k : Kind) → is_sweeping k ≡ true → is_retract k ≡ false
+sweeping_patient : (k : StepKind) → is_sweeping k ≡ true → is_retract k ≡ false
 sweeping_patient k e = elim k as (λ z. is_sweeping z ≡ true → is_retract z ≡ false) [ kinds.Retract ↦ λ h. absurd (cc) | kinds.UpRetract ↦ λ h. absurd (cc) | _ ↦ λ h. refl ] e
 
 -- by a pass that holds the same mode at the lock all the while
@@ -52,27 +52,27 @@ module _ {P : Type 0} (held : Option Mode) where
   patient_then v u w lock kept a b =
       adds_then (IsPatient held v lock) v u w a (adds_as (IsPatient held u lock) (IsPatient held v lock) u w (λ e p. ((p.0.0 ∙ kept.0, p.0.1, p.0.2), p.1)) b)
 
-  looks : (v w : View P) (lock : ℕ) → mode_of (standing v lock) ≡ held → OnlyLooked v lock w → AddsSteps (IsPatient held v lock) v w
+  looks : (v w : View P) (lock : ℕ) → mode_of (standing v lock) ≡ held → StaysAsItWas v lock w → AddsSteps (IsPatient held v lock) v w
   looks v w lock holds looked = adds_as (IsLook v lock) (IsPatient held v lock) v w (λ e p. ((p.0, p.1, p.2 ∙ holds), p.3)) looked.steps
 
-  step : (v w : View P) (kind : Kind) (lock word : ℕ) (y : Standing) (part : P) → mode_of (standing v lock) ≡ held → is_retract kind ≡ false → w ≡ after_step v kind lock word true y part → AddsSteps (IsPatient held v lock) v w
+  step : (v w : View P) (kind : StepKind) (lock word : ℕ) (y : Standing) (part : P) → mode_of (standing v lock) ≡ held → is_retract kind ≡ false → w ≡ after_step v kind lock word true y part → AddsSteps (IsPatient held v lock) v w
   step v w kind lock word y part holds patient is =
       (entry_of v kind lock word true ∷ [], ap (λ (z : View P). z.steps) is, All-cons (IsPatient held v lock) (entry_of v kind lock word true) [] ((refl, refl, holds), patient) (All-nil (IsPatient held v lock)))
 
   -- looks, and then a step
-  looks_step : (v u w : View P) (kind : Kind) (lock word : ℕ) (y : Standing) (part : P) → mode_of (standing v lock) ≡ held → OnlyLooked v lock u → is_retract kind ≡ false → w ≡ after_step u kind lock word true y part → Kept v w × AddsSteps (IsPatient held v lock) v w
+  looks_step : (v u w : View P) (kind : StepKind) (lock word : ℕ) (y : Standing) (part : P) → mode_of (standing v lock) ≡ held → StaysAsItWas v lock u → is_retract kind ≡ false → w ≡ after_step u kind lock word true y part → Kept v w × AddsSteps (IsPatient held v lock) v w
   looks_step v u w kind lock word y part holds looked patient is =
       let kept : Kept v u = kept_looked v u lock looked in let still : mode_of (standing u lock) ≡ held = ap mode_of (stands_still v u lock looked) ∙ holds in
       (kept_then v u w kept (kept_step u w kind lock word y part is), patient_then v u w lock kept (looks v u lock holds looked) (step u w kind lock word y part still patient is))
 
   -- looks, one look more, and then a step: a try that won at last
-  tries_step : (v u w : View P) (kind : Kind) (lock seen : ℕ) (y : Standing) (part : P) → mode_of (standing v lock) ≡ held → OnlyLooked v lock u → is_retract kind ≡ false → w ≡ after_step (after_look u kinds.Load lock seen) kind lock seen true y part → Kept v w × AddsSteps (IsPatient held v lock) v w
+  tries_step : (v u w : View P) (kind : StepKind) (lock seen : ℕ) (y : Standing) (part : P) → mode_of (standing v lock) ≡ held → StaysAsItWas v lock u → is_retract kind ≡ false → w ≡ after_step (after_look u kinds.Load lock seen) kind lock seen true y part → Kept v w × AddsSteps (IsPatient held v lock) v w
   tries_step v u w kind lock seen y part holds looked patient is =
       let look : View P = after_look u kinds.Load lock seen in
       looks_step v look w kind lock seen y part holds (looked_then v u look lock looked (looked_once u look kinds.Load lock seen refl refl)) patient is
 
   -- such a try that announced a writer, which then swept
-  tries_sweep : {C : Type 0} (v u b a : View P) (kind : Kind) (lock seen slots taken : ℕ) (y : Standing) → mode_of (standing v lock) ≡ held → mode_of y ≡ held → OnlyLooked v lock u → is_retract kind ≡ false → b ≡ after_step (after_look u kinds.Load lock seen) kind lock seen true y u.part → (g : Ghosts C P) → Sweeps g lock slots taken b a → Kept v a × AddsSteps (IsPatient held v lock) v a
+  tries_sweep : {C : Type 0} (v u b a : View P) (kind : StepKind) (lock seen slots taken : ℕ) (y : Standing) → mode_of (standing v lock) ≡ held → mode_of y ≡ held → StaysAsItWas v lock u → is_retract kind ≡ false → b ≡ after_step (after_look u kinds.Load lock seen) kind lock seen true y u.part → (g : Ghosts C P) → Sweeps g lock slots taken b a → Kept v a × AddsSteps (IsPatient held v lock) v a
   tries_sweep v u b a kind lock seen slots taken y holds stays looked patient is g sweeps =
       let look : View P = after_look u kinds.Load lock seen in
       let first = tries_step v u b kind lock seen y u.part holds looked patient is in
@@ -84,7 +84,7 @@ module _ {P : Type 0} (held : Option Mode) where
       )
 
 module _ {P : Type 0} where
-  pub patient_looks : (v w : View P) (lock : ℕ) → mode_of (standing v lock) ≡ None → OnlyLooked v lock w → AddsSteps (IsPatientTry v lock) v w
+  pub patient_looks : (v w : View P) (lock : ℕ) → mode_of (standing v lock) ≡ None → StaysAsItWas v lock w → AddsSteps (IsPatientTry v lock) v w
   patient_looks v w lock free looked = looks None v w lock free looked
 
 module _ {C P : Type 0} (g : Ghosts C P) (v : View P) (lock : ℕ) (away : standing v lock ≡ Away) where
@@ -106,7 +106,7 @@ module _ {C P : Type 0} (g : Ghosts C P) (v : View P) (lock : ℕ) (away : stand
       patient_then None v a w lock first.0 first.1 (looks_step None a e.0 w kinds.Hold lock 4 _ e.3.0.1 (ap mode_of stands) e.2 refl e.3.0.3).1
 
   -- and those of a writer that was announced, met readers, and took its announcement back
-  pub trying_writer : (slots : ℕ) (faults : List TryFault) (a u w : View P) → AnnouncesAtLast g v lock faults a → standing a lock ≡ Announcing slots 0 false → OnlyLooked a lock u → (found : ℕ) × Retracts g u lock found w → AddsSteps (IsTry v lock) v w
+  pub trying_writer : (slots : ℕ) (faults : List TryFault) (a u w : View P) → AnnouncesAtLast g v lock faults a → standing a lock ≡ Announcing slots 0 false → StaysAsItWas a lock u → (found : ℕ) × Retracts g u lock found w → AddsSteps (IsTry v lock) v w
   trying_writer slots faults a u w began stands looked back =
       let first = announced faults a began in let kept : Kept v u = kept_then v a u first.0 (kept_looked a u lock looked) in let free_a : mode_of (standing a lock) ≡ None = ap mode_of stands in
       let free_u : mode_of (standing u lock) ≡ None = ap mode_of (stands_still a u lock looked) ∙ free_a in

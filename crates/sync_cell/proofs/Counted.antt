@@ -2,8 +2,8 @@
 use Rattle.std.proofs.Common.{◌≡◌, ℕ, ◌⊎◌, ◌+◌, ◌<◌, ◌≤◌, true, false, cond, List, [], ◌∷◌, ◌++◌, length, refl, ap, ◌∙◌, ⊎_elim, arith}
 use Rattle.std.specs.declared.option.Option.{Option}
 use Rattle.lock_model.specs.declared.model.Mode.{Mode}
-use Rattle.hall.specs.declared.view.Kind.{Kind}
-use Rattle.hall.specs.declared.view.Kind.TheVariants as kinds
+use Rattle.hall.specs.declared.view.StepKind.{StepKind}
+use Rattle.hall.specs.declared.view.StepKind.TheVariants as kinds
 use Rattle.hall.specs.declared.view.StepEntry.{StepEntry}
 use Rattle.hall.specs.declared.guards.Form.{Form}
 use Rattle.hall.specs.declared.guards.Form.TheVariants as forms
@@ -35,7 +35,7 @@ module _ {P : Type 0} where
   abbrev pub holds : View P → ℕ
   holds v = how_many is_hold v.steps
 
-sweeping_load : (k : Kind) → is_sweeping k ≡ true → is_load k ≡ false
+sweeping_load : (k : StepKind) → is_sweeping k ≡ true → is_load k ≡ false
 sweeping_load k e = elim k as (λ z. is_sweeping z ≡ true → is_load z ≡ false) [ kinds.Load ↦ λ h. absurd (cc) | _ ↦ λ h. refl ] e
 
 no_loads : (number lock : ℕ) (mode : Option Mode) (es old : List StepEntry) → AllSweeping number lock mode es → how_many is_load (es ++ old) ≡ how_many is_load old

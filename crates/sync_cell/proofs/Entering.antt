@@ -11,8 +11,8 @@ use Rattle.hall.specs.declared.guards.SharedGuard.{SharedGuard}
 use Rattle.hall.specs.declared.guards.TryFault.{TryFault}
 use Rattle.hall.specs.declared.guards.TryFault.TheVariants.{Busy, Raced}
 use Rattle.hall.specs.declared.guards.Why.TheVariants.{NoDefer, SlotsTaken}
-use Rattle.hall.specs.declared.view.Kind.{Kind}
-use Rattle.hall.specs.declared.view.Kind.TheVariants as kinds
+use Rattle.hall.specs.declared.view.StepKind.{StepKind}
+use Rattle.hall.specs.declared.view.StepKind.TheVariants as kinds
 use Rattle.hall.specs.declared.view.Shape.{Shape}
 use Rattle.hall.specs.declared.view.Standing.TheVariants.{Away}
 use Rattle.hall.specs.declared.view.View.{View}
@@ -42,7 +42,7 @@ module _ {C P : Type 0} (g : Ghosts C P) (v : View P) (lock : ℕ) (w : View P) 
   tells z = reader_fault v.shape.policy z.steps
 
   -- a step on a slot is no read of the lock's word
-  placing_reads : (is : Kind → Bool) (l u : View P) (slot : ℕ) → is kinds.PlaceSlot ≡ false → Places g l lock (At slot) u → word_at is u.steps ≡ word_at is l.steps
+  placing_reads : (is : StepKind → Bool) (l u : View P) (slot : ℕ) → is kinds.PlaceSlot ≡ false → Places g l lock (At slot) u → word_at is u.steps ≡ word_at is l.steps
   placing_reads is l u slot none p = ⊎_elim
       (λ a. ap (λ (z : View P). word_at is z.steps) a.1.0 ∙ ap (λ (b : Bool). cond b 0 (word_at is l.steps)) none)
       (λ b. let z : View P = b.1.0 in

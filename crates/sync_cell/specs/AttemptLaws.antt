@@ -10,7 +10,7 @@ use Rattle.hall.specs.declared.view.Shape.{Shape}
 use Rattle.hall.specs.declared.view.View.{View}
 use Rattle.hall.specs.Fitting.{stands_by}
 use Rattle.shared_mutex.specs.Acquiring.{EntersBy, Finishes, RefusesAnnouncing, RefusesShared}
-use Rattle.shared_mutex.specs.Tries.{AnnouncesAndSweeps, MeetsReaders, OnlyLooked}
+use Rattle.shared_mutex.specs.Tries.{AnnouncesAndSweeps, MeetsReaders, StaysAsItWas}
 use Rattle.shared_mutex.specs.TryLaws.{all_looked, meeting_looked, reader_looked, refused_then, still_elsewhere, wins_then, writer_looked}
 use Rattle.upgrade_mode.specs.Holding.{EntersUpgrade, RefusesUpgrade}
 use Rattle.upgrade_mode.specs.Tries.{MissesBeginning, beginning_looked, upgrader_looked}
@@ -20,7 +20,7 @@ module _ {P : Type 0} (misses : View P → View P → TryFault → Type 0) where
   refused_again : (v u w : View P) (f h : TryFault) → StillRefused misses v f u → StillRefused misses u h w → StillRefused misses v h w
   refused_again v u w f h a b = (b.0 ++ f ∷ a.0, refused_then misses v u w (f ∷ a.0) (h ∷ b.0) a.1 b.1)
 
-  module _ (lock : ℕ) (each : (u w : View P) (f : TryFault) → misses u w f → OnlyLooked u lock w) where
+  module _ (lock : ℕ) (each : (u w : View P) (f : TryFault) → misses u w f → StaysAsItWas u lock w) where
     -- where each refused try only looked
     won_then : (wins : View P → View P → Type 0) (stands : Standing) (v u w : View P) (f : TryFault) → StillRefused misses v f u → HasWon misses wins stands u lock w → HasWon misses wins stands v lock w
     won_then wins stands v u w f a b = (

@@ -5,8 +5,8 @@ use Rattle.hall.specs.declared.cargo.CargoRule.{Ghosts}
 use Rattle.hall.specs.declared.guards.Form.{Form}
 use Rattle.hall.specs.declared.guards.TryFault.{TryFault}
 use Rattle.hall.specs.declared.guards.TryFault.TheVariants.{Busy, Raced}
-use Rattle.hall.specs.declared.view.Kind.{Kind}
-use Rattle.hall.specs.declared.view.Kind.TheVariants as kinds
+use Rattle.hall.specs.declared.view.StepKind.{StepKind}
+use Rattle.hall.specs.declared.view.StepKind.TheVariants as kinds
 use Rattle.hall.specs.declared.view.Standing.{Standing}
 use Rattle.hall.specs.declared.view.Standing.TheVariants.{Upgrade, Exclusive, Announcing}
 use Rattle.hall.specs.declared.view.StepEntry.{StepEntry}
@@ -22,25 +22,25 @@ use Rattle.upgrade_mode.specs.Tries.{MissesBeginning}
 use Rattle.apply_deferred.specs.Sweeping.{Sweeps}
 
 -- who enters or is announced loads once in each try; an announced writer makes one exchange to take the lock
-abbrev pub is_load : Kind → Bool
+abbrev pub is_load : StepKind → Bool
 is_load kinds.Load = true
 is_load kind = false
 
-abbrev pub is_hold : Kind → Bool
+abbrev pub is_hold : StepKind → Bool
 is_hold kinds.Hold = true
 is_hold kind = false
 
 -- how many of the steps are of such a kind
-abbrev pub how_many : (Kind → Bool) → List StepEntry → ℕ
+abbrev pub how_many : (StepKind → Bool) → List StepEntry → ℕ
 how_many is [] = 0
 how_many is (e ∷ es) = cond (is e.kind) 1 0 + how_many is es
 
-abbrev pub is_check : Kind → Bool
+abbrev pub is_check : StepKind → Bool
 is_check kinds.Check = true
 is_check kind = false
 
 -- the word that the newest of these steps of such a kind found
-abbrev pub word_at : (Kind → Bool) → List StepEntry → ℕ
+abbrev pub word_at : (StepKind → Bool) → List StepEntry → ℕ
 word_at is [] = 0
 word_at is (e ∷ es) = cond (is e.kind) e.word (word_at is es)
 
@@ -49,7 +49,7 @@ abbrev pub turned_back : Policy → ℕ → ℕ → TryFault
 turned_back policy expected word = cond (conflicts_for_shared policy word) (Busy word) (Raced expected word)
 
 -- what a reader was refused with whose newest step is of this kind, won or not, and found this word, where these steps came before it. One that took its token back, or gave a unit back for it, was refused for what its second look had found
-abbrev pub reader_refusal : Policy → Kind → Bool → ℕ → List StepEntry → Option TryFault
+abbrev pub reader_refusal : Policy → StepKind → Bool → ℕ → List StepEntry → Option TryFault
 reader_refusal policy kinds.Load won word es = Some (Busy word)
 reader_refusal policy kinds.Enter true word es = None
 reader_refusal policy kinds.Enter false word es = Some (Raced (word_at is_load es) word)
@@ -68,7 +68,7 @@ raced_to found [] = None
 raced_to found (e ∷ es) = Some (Raced e.word found)
 
 -- what a step of this kind of a writer or an upgrade holder, won or not, that found this word was refused with, where these steps came before it
-abbrev pub refusal : Kind → Bool → ℕ → List StepEntry → Option TryFault
+abbrev pub refusal : StepKind → Bool → ℕ → List StepEntry → Option TryFault
 refusal kind true word es = None
 refusal kinds.Announce false word es = raced_to word es
 refusal kinds.UpgradeIn false word es = raced_to word es

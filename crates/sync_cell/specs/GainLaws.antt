@@ -10,8 +10,8 @@ use Rattle.hall.specs.declared.guards.Form.TheVariants as forms
 use Rattle.hall.specs.declared.guards.Why.TheVariants.{NoDefer, SlotsTaken}
 use Rattle.hall.specs.declared.guards.TryFault.{TryFault}
 use Rattle.hall.specs.declared.guards.TryFault.TheVariants.{Busy, Raced}
-use Rattle.hall.specs.declared.view.Kind.{Kind}
-use Rattle.hall.specs.declared.view.Kind.TheVariants as kinds
+use Rattle.hall.specs.declared.view.StepKind.{StepKind}
+use Rattle.hall.specs.declared.view.StepKind.TheVariants as kinds
 use Rattle.hall.specs.declared.view.Shape.{Shape}
 use Rattle.hall.specs.declared.view.Standing.{Standing}
 use Rattle.hall.specs.declared.view.Standing.TheVariants.{Away, Undecided, Owing, Announcing}
@@ -29,14 +29,14 @@ use Rattle.apply_deferred.specs.SweepLaws.{AllSweeping, is_sweeping, same_mode, 
 use Rattle.shared_mutex.specs.Acquiring.{AnnouncesWriter, EntersBy, FoundReaders, RefusesAnnouncing, RefusesExclusive, RefusesShared, TakesExclusive}
 use Rattle.shared_mutex.specs.Refused.{AddsReads, MadeMore}
 use Rattle.shared_mutex.specs.TokenLaws.{both_missed, loaded, placed, still_away}
-use Rattle.shared_mutex.specs.Tries.{AddsSteps, IsLook, IsTry, OnlyLooked}
+use Rattle.shared_mutex.specs.Tries.{AddsSteps, IsLook, IsTry, StaysAsItWas}
 use Rattle.shared_mutex.specs.TryLaws.{adds_as, adds_none, adds_then, reader_looked}
 use Rattle.upgrade_mode.specs.Holding.{EntersUpgrade, RefusesUpgrade}
 use Rattle.sync_cell.specs.Attempts.{is_hold, is_load}
 use Rattle.sync_cell.specs.Gains.{AnyStep, GainedBy, GainedInOrder, IsQuiet, gains_mode, looks_in, refuses_reader, refuses_writer}
 
 -- what is no look at a lock to be let in is no load of its word
-no_load : (k : Kind) (word : ℕ) → looks_in k word ≡ false → is_load k ≡ false
+no_load : (k : StepKind) (word : ℕ) → looks_in k word ≡ false → is_load k ≡ false
 no_load k word e = elim k as (λ z. looks_in z word ≡ false → is_load z ≡ false) [ kinds.Load ↦ λ h. absurd (cc) | _ ↦ λ h. refl ] e
 
 nobody_there : (a b : Bool) → b ≡ false → (a && b) ≡ false
@@ -44,7 +44,7 @@ nobody_there true b e = e
 nobody_there false b e = refl
 
 -- a step of a sweep refuses nobody
-sweeping_refuses_none : (k : Kind) (a b : Bool) → is_sweeping k ≡ true → ((is_load k && a) || (is_hold k && b)) ≡ false
+sweeping_refuses_none : (k : StepKind) (a b : Bool) → is_sweeping k ≡ true → ((is_load k && a) || (is_hold k && b)) ≡ false
 sweeping_refuses_none k a b e = elim k as (λ z. is_sweeping z ≡ true → ((is_load z && a) || (is_hold z && b)) ≡ false) [ kinds.Load ↦ λ h. absurd (cc) | kinds.Hold ↦ λ h. absurd (cc) | _ ↦ λ h. refl ] e
 
 module _ {P : Type 0} (such : StepEntry → Type 0) where
@@ -62,13 +62,13 @@ module _ {P : Type 0} (such : StepEntry → Type 0) where
   tries_none v lock away = record { number = refl; free = ap mode_of away; steps = adds_none (IsTrySuch v lock) v v refl }
 
   -- one step more, on the word at a place of the table
-  step_more_at : (v u w : View P) (kind : Kind) (lock place word : ℕ) (won : Bool) (y : Standing) (part : P) → OnlyTries v u lock → such (entry_at u kind lock place word won) → w ≡ after_step_at u kind lock place word won y part → AddsSteps (IsTrySuch v lock) v w
+  step_more_at : (v u w : View P) (kind : StepKind) (lock place word : ℕ) (won : Bool) (y : Standing) (part : P) → OnlyTries v u lock → such (entry_at u kind lock place word won) → w ≡ after_step_at u kind lock place word won y part → AddsSteps (IsTrySuch v lock) v w
   step_more_at v u w kind lock place word won y part t so is =
       let e : StepEntry = entry_at u kind lock place word won in
       adds_then (IsTrySuch v lock) v u w t.steps (e ∷ [], ap (λ (z : View P). z.steps) is, All-cons (IsTrySuch v lock) e [] ((t.number, refl, t.free), so) (All-nil (IsTrySuch v lock)))
 
   -- and it leaves a standing without a mode
-  tries_more_at : (v u w : View P) (kind : Kind) (lock place word : ℕ) (won : Bool) (y : Standing) (part : P) → OnlyTries v u lock → such (entry_at u kind lock place word won) → mode_of y ≡ None → w ≡ after_step_at u kind lock place word won y part → OnlyTries v w lock
+  tries_more_at : (v u w : View P) (kind : StepKind) (lock place word : ℕ) (won : Bool) (y : Standing) (part : P) → OnlyTries v u lock → such (entry_at u kind lock place word won) → mode_of y ≡ None → w ≡ after_step_at u kind lock place word won y part → OnlyTries v w lock
   tries_more_at v u w kind lock place word won y part t so free is = record {
     number = ap (λ (z : View P). z.number) is ∙ t.number;
     free = ap (λ (z : View P). mode_of (standing z lock)) is ∙ same_mode u.standings lock y (free ∙ sym t.free) ∙ t.free;
@@ -76,14 +76,14 @@ module _ {P : Type 0} (such : StepEntry → Type 0) where
   }
 
   -- the same on the lock's own word
-  step_more : (v u w : View P) (kind : Kind) (lock word : ℕ) (won : Bool) (y : Standing) (part : P) → OnlyTries v u lock → such (entry_of u kind lock word won) → w ≡ after_step u kind lock word won y part → AddsSteps (IsTrySuch v lock) v w
+  step_more : (v u w : View P) (kind : StepKind) (lock word : ℕ) (won : Bool) (y : Standing) (part : P) → OnlyTries v u lock → such (entry_of u kind lock word won) → w ≡ after_step u kind lock word won y part → AddsSteps (IsTrySuch v lock) v w
   step_more v u w kind lock word won y part t so is = step_more_at v u w kind lock (place_of u lock) word won y part t so is
 
-  tries_more : (v u w : View P) (kind : Kind) (lock word : ℕ) (won : Bool) (y : Standing) (part : P) → OnlyTries v u lock → such (entry_of u kind lock word won) → mode_of y ≡ None → w ≡ after_step u kind lock word won y part → OnlyTries v w lock
+  tries_more : (v u w : View P) (kind : StepKind) (lock word : ℕ) (won : Bool) (y : Standing) (part : P) → OnlyTries v u lock → such (entry_of u kind lock word won) → mode_of y ≡ None → w ≡ after_step u kind lock word won y part → OnlyTries v w lock
   tries_more v u w kind lock word won y part t so free is = tries_more_at v u w kind lock (place_of u lock) word won y part t so free is
 
   -- a look
-  tries_look : (v u : View P) (kind : Kind) (lock word : ℕ) → OnlyTries v u lock → such (entry_of u kind lock word false) → OnlyTries v (after_look u kind lock word) lock
+  tries_look : (v u : View P) (kind : StepKind) (lock word : ℕ) → OnlyTries v u lock → such (entry_of u kind lock word false) → OnlyTries v (after_look u kind lock word) lock
   tries_look v u kind lock word t so = tries_more v u (after_look u kind lock word) kind lock word false (standing u lock) u.part t so t.free refl
 
 module _ {P : Type 0} where
@@ -225,7 +225,7 @@ module _ {C P : Type 0} (g : Ghosts C P) (v : View P) (lock : ℕ) where
         r.2
 
   pub reader_tried : (w : View P) (f : TryFault) → standing v lock ≡ Away → RefusesShared g v lock w f → AddsSteps (IsTry v lock) v w
-  reader_tried w f away r = let looked : OnlyLooked v lock w = reader_looked g v lock w f r in adds_as (IsLook v lock) (IsTry v lock) v w (λ e p. (p.0, p.1, p.2 ∙ ap mode_of away)) looked.steps
+  reader_tried w f away r = let looked : StaysAsItWas v lock w = reader_looked g v lock w f r in adds_as (IsLook v lock) (IsTry v lock) v w (λ e p. (p.0, p.1, p.2 ∙ ap mode_of away)) looked.steps
 
 -- ---- upgrade, of whom the same words are in the way as of a writer's announcement
 module _ {C P : Type 0} (g : Ghosts C P) (v w : View P) (lock : ℕ) (away : standing v lock ≡ Away) where

@@ -2,15 +2,15 @@
 use Rattle.std.specs.Prelude.{◌≡◌, ℕ, ◌==◌, ◌&&◌, ◌||◌, not, Bool, true, false, List, ◌∷◌, ◌++◌, All, None}
 use Rattle.lock_model.specs.declared.model.Policy.{Policy}
 use Rattle.state_word.specs.Words.{may_defer_of}
-use Rattle.hall.specs.declared.view.Kind.{Kind}
-use Rattle.hall.specs.declared.view.Kind.TheVariants as kinds
+use Rattle.hall.specs.declared.view.StepKind.{StepKind}
+use Rattle.hall.specs.declared.view.StepKind.TheVariants as kinds
 use Rattle.hall.specs.declared.view.StepEntry.{StepEntry}
 use Rattle.hall.specs.Plays.{conflicts_for_announcing, conflicts_for_shared}
 use Rattle.hall.specs.Views.{mode_of}
 use Rattle.sync_cell.specs.Attempts.{is_hold, is_load}
 
 -- a step of this kind, won or not, that found this word, gained a mode at a lock for a pass that held none there: an exchange that won, or the look of a reader with a token in a slot that found that readers may defer
-abbrev pub gains_mode : Kind → Bool → ℕ → Bool
+abbrev pub gains_mode : StepKind → Bool → ℕ → Bool
 gains_mode kinds.Enter won word = won
 gains_mode kinds.UpgradeIn won word = won
 gains_mode kinds.Hold won word = won
@@ -18,7 +18,7 @@ gains_mode kinds.Check won word = may_defer_of word == 1
 gains_mode kind won word = false
 
 -- a step that looked at a lock's word to be let in: a try's first load, or the look of a reader with a token in a slot that found that readers may defer no more
-abbrev pub looks_in : Kind → ℕ → Bool
+abbrev pub looks_in : StepKind → ℕ → Bool
 looks_in kinds.Load word = true
 looks_in kinds.Check word = not (may_defer_of word == 1)
 looks_in kind word = false

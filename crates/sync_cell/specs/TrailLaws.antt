@@ -4,8 +4,8 @@ use Rattle.std.specs.declared.option.Option.{Option}
 use Rattle.std.proofs.Common.{refl, ⊎_elim}
 use Rattle.hall.specs.declared.cargo.CargoRule.{Ghosts}
 use Rattle.hall.specs.declared.guards.TryFault.{TryFault}
-use Rattle.hall.specs.declared.view.Kind.{Kind}
-use Rattle.hall.specs.declared.view.Kind.TheVariants as kinds
+use Rattle.hall.specs.declared.view.StepKind.{StepKind}
+use Rattle.hall.specs.declared.view.StepKind.TheVariants as kinds
 use Rattle.hall.specs.declared.view.Standing.{Standing}
 use Rattle.hall.specs.declared.view.Standing.TheVariants.{Away, Inline, Upgrade, Exclusive, Announcing}
 use Rattle.hall.specs.declared.view.View.{View}
@@ -14,7 +14,7 @@ use Rattle.hall.specs.Treading.{IsAt, IsBetween, Treads, treads_as, treads_step,
 use Rattle.hall.specs.Upgrading.{LeavesUpgrade, LowersToShared}
 use Rattle.hall.specs.Views.{after_look, after_step, standing}
 use Rattle.shared_mutex.specs.TrailLaws.{gives_up_treads, looked_at, sweeps_treads}
-use Rattle.shared_mutex.specs.Tries.{OnlyLooked}
+use Rattle.shared_mutex.specs.Tries.{StaysAsItWas}
 use Rattle.shared_mutex.specs.TryLaws.{looked_once, looked_then}
 use Rattle.upgrade_mode.specs.Tries.{EntersUpgradeAtLast, RisesAtLast}
 use Rattle.sync_cell.specs.Waits.{GaveUpLate}
@@ -24,11 +24,11 @@ pub gave_up_treads : {C P T : Type 0} (g : Ghosts C P) (v w : View P) (lock : �
 gave_up_treads g v w lock last answers deadline old new fault now late = ⊎_elim (λ a. looked_at v w lock a.2) (λ b. gives_up_treads g v w lock b.0 (fault ∷ b.1) b.2) late
 
 module _ {P : Type 0} (v w : View P) (lock : ℕ) where
-  once_at : (kind : Kind) (word : ℕ) (y : Standing) (part : P) → w ≡ after_step v kind lock word true y part → Treads (IsAt lock) v w
+  once_at : (kind : StepKind) (word : ℕ) (y : Standing) (part : P) → w ≡ after_step v kind lock word true y part → Treads (IsAt lock) v w
   once_at kind word y part is = treads_as (IsBetween lock (standing v lock) y) (IsAt lock) v w (λ m p. p.0) (treads_step v w kind lock word true y part is)
 
   -- a try that won at last: looks, one look more, and the step that won
-  tries_at : (u : View P) (kind : Kind) (seen : ℕ) (y : Standing) (part : P) → OnlyLooked v lock u → w ≡ after_step (after_look u kinds.Load lock seen) kind lock seen true y part → Treads (IsAt lock) v w
+  tries_at : (u : View P) (kind : StepKind) (seen : ℕ) (y : Standing) (part : P) → StaysAsItWas v lock u → w ≡ after_step (after_look u kinds.Load lock seen) kind lock seen true y part → Treads (IsAt lock) v w
   tries_at u kind seen y part looked is =
       let look : View P = after_look u kinds.Load lock seen in
       treads_then (IsAt lock) v look w (looked_at v look lock (looked_then v u look lock looked (looked_once u look kinds.Load lock seen refl refl)))

@@ -4,7 +4,7 @@ use Rattle.std.proofs.Common.{ap, refl, ◌∙◌}
 use Rattle.hall.specs.declared.guards.Form.{Form}
 use Rattle.hall.specs.declared.guards.TryFault.{TryFault}
 use Rattle.hall.specs.declared.view.View.{View}
-use Rattle.hall.specs.declared.view.Kind.TheVariants as kinds
+use Rattle.hall.specs.declared.view.StepKind.TheVariants as kinds
 use Rattle.hall.specs.declared.view.Standing.TheVariants.{Away, Upgrade, Exclusive}
 use Rattle.hall.specs.Views.{after_look, entry_of, standing}
 use Rattle.map_cargo.specs.declared.entry.Part.{Part}
@@ -15,12 +15,12 @@ use Rattle.map_cargo.specs.Steps.{Gained, MoreSteps}
 use Rattle.apply_deferred.specs.SweepLaws.{sweep_goes}
 use Rattle.sync_cell.specs.Attempts.{ReadsAtLast}
 use Rattle.sync_cell.specs.Cells.{maps}
-use Rattle.shared_mutex.specs.Tries.{AnnouncesAtLast, OnlyLooked, WritesAtLast}
+use Rattle.shared_mutex.specs.Tries.{AnnouncesAtLast, StaysAsItWas, WritesAtLast}
 use Rattle.shared_mutex.specs.TryLaws.{stands_still}
 use Rattle.upgrade_mode.specs.Tries.{EntersUpgradeAtLast}
 
 -- looks only add steps
-looked_more : (v w : View Part) (lock : ℕ) → OnlyLooked v lock w → MoreSteps v w
+looked_more : (v w : View Part) (lock : ℕ) → StaysAsItWas v lock w → MoreSteps v w
 looked_more v w lock looked = record { added = looked.steps.0; stand = looked.steps.1 }
 
 load_more : (v : View Part) (lock word : ℕ) → MoreSteps v (after_look v kinds.Load lock word)

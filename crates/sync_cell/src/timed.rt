@@ -9,7 +9,7 @@ ghost use Rattle.hall.specs.declared.view.Standing.TheVariants.{Away, Upgrade, E
 ghost use Rattle.shared_mutex.specs.Acquiring.{ElsewhereSame};
 ghost use Rattle.sync_cell.specs.Attempts.{ReadsAtLast};
 ghost use Rattle.sync_cell.specs.Cells.{maps};
-ghost use Rattle.shared_mutex.specs.Tries.{AddsSteps, IsPatientTry, IsTry, OnlyLooked, ReadersRefused, WritesAtLast};
+ghost use Rattle.shared_mutex.specs.Tries.{AddsSteps, IsPatientTry, IsTry, StaysAsItWas, ReadersRefused, WritesAtLast};
 ghost use Rattle.upgrade_mode.specs.Tries.{EntersUpgradeAtLast, UpgradersRefused};
 ghost use Rattle.sync_cell.specs.Waits.{AskedInTime, AskedTooLate, GaveUpLate};
 
@@ -50,7 +50,7 @@ pub fn rlock_until<R: Wait, T: Clock>(
         (λ ptr. (faults : List TryFault) × ReadsAtLast maps (view pass.old) cell ptr.guard.form faults (view pass.new)
         × AskedInTime T.last T.answers deadline (length faults) clock.old clock.new)
         (λ late. (faults : List TryFault) × ReadersRefused maps cell (view pass.old) (late.fault ∷ faults) (view pass.new)
-        × OnlyLooked (view pass.old) cell (view pass.new)
+        × StaysAsItWas (view pass.old) cell (view pass.new)
         × AskedTooLate T.last T.answers deadline (length faults + 1) clock.old clock.new late.now) }
     ensures steps { AddsSteps (IsPatientTry (view pass.old) cell) (view pass.old) (view pass.new) }
 {
@@ -86,7 +86,7 @@ pub fn ulock_until<R: Wait, T: Clock>(
         (λ _. (faults : List TryFault) × EntersUpgradeAtLast maps (view pass.old) cell faults (view pass.new)
         × AskedInTime T.last T.answers deadline (length faults) clock.old clock.new)
         (λ late. (faults : List TryFault) × UpgradersRefused maps cell (view pass.old) (late.fault ∷ faults) (view pass.new)
-        × OnlyLooked (view pass.old) cell (view pass.new)
+        × StaysAsItWas (view pass.old) cell (view pass.new)
         × AskedTooLate T.last T.answers deadline (length faults + 1) clock.old clock.new late.now) }
     ensures steps { AddsSteps (IsPatientTry (view pass.old) cell) (view pass.old) (view pass.new) }
 {

@@ -4,7 +4,7 @@ use Rattle.hall.specs.declared.cargo.CargoRule.{Ghosts}
 use Rattle.hall.specs.declared.guards.TryFault.{TryFault}
 use Rattle.hall.specs.declared.guards.TryFault.TheVariants.{Busy, Raced}
 use Rattle.hall.specs.declared.view.View.{View}
-use Rattle.hall.specs.declared.view.Kind.TheVariants as kinds
+use Rattle.hall.specs.declared.view.StepKind.TheVariants as kinds
 use Rattle.hall.specs.Plays.{conflicts_for_announcing}
 use Rattle.hall.specs.Reasons.{WasNotAlone, MetAWriter}
 use Rattle.hall.specs.Upgrading.{ShowsUpgrade, TakesUpgrade, AnnouncesUp}

@@ -4,7 +4,7 @@ use Rattle.std.proofs.Common.{refl, ap, inl}
 use Rattle.hall.specs.declared.cargo.CargoRule.{Ghosts}
 use Rattle.hall.specs.declared.guards.TryFault.{TryFault}
 use Rattle.hall.specs.declared.guards.TryFault.TheVariants.{Busy, Raced}
-use Rattle.hall.specs.declared.view.Kind.TheVariants as kinds
+use Rattle.hall.specs.declared.view.StepKind.TheVariants as kinds
 use Rattle.hall.specs.declared.view.Shape.{Shape}
 use Rattle.hall.specs.declared.view.Standing.TheVariants.{Away}
 use Rattle.hall.specs.declared.view.StepEntry.{StepEntry}

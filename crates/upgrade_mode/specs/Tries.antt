@@ -4,12 +4,12 @@ use Rattle.std.proofs.Common.{refl}
 use Rattle.hall.specs.declared.cargo.CargoRule.{Ghosts}
 use Rattle.hall.specs.declared.guards.TryFault.{TryFault}
 use Rattle.hall.specs.declared.guards.TryFault.TheVariants.{Busy, Raced}
-use Rattle.hall.specs.declared.view.Kind.TheVariants as kinds
+use Rattle.hall.specs.declared.view.StepKind.TheVariants as kinds
 use Rattle.hall.specs.declared.view.View.{View}
 use Rattle.hall.specs.Upgrading.{HoldingUp}
 use Rattle.hall.specs.Views.{after_look}
 use Rattle.apply_deferred.specs.Sweeping.{Sweeps}
-use Rattle.shared_mutex.specs.Tries.{AllRefused, MeetsReaders, OnlyLooked, WinsAtLast}
+use Rattle.shared_mutex.specs.Tries.{AllRefused, MeetsReaders, StaysAsItWas, WinsAtLast}
 use Rattle.shared_mutex.specs.TryLaws.{all_looked, looked_once, looked_then}
 use Rattle.upgrade_mode.specs.Holding.{BeginsUpgrade, EntersUpgrade, RacesToBegin, RefusesUpgrade}
 
@@ -40,16 +40,16 @@ module _ {C P : Type 0} (g : Ghosts C P) where
   RisesAtLast v lock faults misses w = (a : View P) × BeginsAtLast v lock faults a × HoldsUpAtLast a lock misses w
 
   -- refused tries only looked
-  pub upgrader_looked : (v : View P) (lock : ℕ) (w : View P) (f : TryFault) → RefusesUpgrade g v lock w f → OnlyLooked v lock w
+  pub upgrader_looked : (v : View P) (lock : ℕ) (w : View P) (f : TryFault) → RefusesUpgrade g v lock w f → StaysAsItWas v lock w
   upgrader_looked v lock w (Busy word) r = looked_once v w kinds.Load lock word refl r.1
   upgrader_looked v lock w (Raced expected found) r = looked_then v (after_look v kinds.Load lock expected) w lock (looked_once v (after_look v kinds.Load lock expected) kinds.Load lock expected refl refl) (looked_once (after_look v kinds.Load lock expected) w kinds.UpgradeIn lock found refl r.1)
 
-  pub beginning_looked : (v : View P) (lock : ℕ) (w : View P) (f : TryFault) → MissesBeginning v lock w f → OnlyLooked v lock w
+  pub beginning_looked : (v : View P) (lock : ℕ) (w : View P) (f : TryFault) → MissesBeginning v lock w f → StaysAsItWas v lock w
   beginning_looked v lock w (Busy word) r = absurd r
   beginning_looked v lock w (Raced expected found) r = looked_then v (after_look v kinds.Load lock expected) w lock (looked_once v (after_look v kinds.Load lock expected) kinds.Load lock expected refl refl) (looked_once (after_look v kinds.Load lock expected) w kinds.Up lock found refl r.1)
 
-  pub upgraders_looked : (v : View P) (lock : ℕ) (w : View P) (fs : List TryFault) → UpgradersRefused lock v fs w → OnlyLooked v lock w
+  pub upgraders_looked : (v : View P) (lock : ℕ) (w : View P) (fs : List TryFault) → UpgradersRefused lock v fs w → StaysAsItWas v lock w
   upgraders_looked v lock w fs r = all_looked (λ v w f. RefusesUpgrade g v lock w f) lock (λ u w f. upgrader_looked u lock w f) v w fs r
 
-  pub beginnings_looked : (v : View P) (lock : ℕ) (w : View P) (fs : List TryFault) → AllRefused (λ v w fault. MissesBeginning v lock w fault) v fs w → OnlyLooked v lock w
+  pub beginnings_looked : (v : View P) (lock : ℕ) (w : View P) (fs : List TryFault) → AllRefused (λ v w fault. MissesBeginning v lock w fault) v fs w → StaysAsItWas v lock w
   beginnings_looked v lock w fs r = all_looked (λ v w f. MissesBeginning v lock w f) lock (λ u w f. beginning_looked u lock w f) v w fs r

@@ -4,7 +4,7 @@ use mathlib.Core.Option.{none, Option as Maybe}
 use Rattle.atomic_table.specs.Table.{keeps, takes, Allows, stepped}
 use Rattle.atomic_table.proofs.Lists.{set_here, set_else}
 use Rattle.waiter_chain.specs.declared.view.View.{View}
-use Rattle.waiter_chain.specs.declared.view.Entry.{Entry}
+use Rattle.waiter_chain.specs.declared.view.StepEntry.{StepEntry}
 use Rattle.waiter_chain.specs.declared.view.Stage.{Stage}
 use Rattle.waiter_chain.specs.declared.view.Stage.TheVariants.{Idle, Cleared, Ready}
 use Rattle.waiter_chain.specs.Goods.{Goods}
@@ -14,7 +14,7 @@ use Rattle.waiter_chain.proofs.Rules.{awake, desk-same, waits-other, done-other,
 
 module _ {P : Type 0} (rule : Goods P → Type 0) (nodes : ℕ) where
   -- the store of 0 in its link, by which an idle pass takes its own job slot
-  pub clears : (slots id : ℕ) (m : SeatState P) (k : ℕ) (steps : List Entry) → m.0.stage ≡ Idle → m.0.gone ≡ false → k ≡ 2 + 2 * m.0.number
+  pub clears : (slots id : ℕ) (m : SeatState P) (k : ℕ) (steps : List StepEntry) → m.0.stage ≡ Idle → m.0.gone ≡ false → k ≡ 2 + 2 * m.0.number
       → Allows (Lawful rule nodes) slots id m k (λ _. 0) (λ _ n. (y : Option P) × (n ≡ (with_steps m.0 (Cleared true) steps, (1 + 2 * m.0.number, y) ∷ m.1)))
   clears slots id m k steps idle live-now is s o long me _ =
       let n : ℕ = m.0.number in
@@ -45,7 +45,7 @@ module _ {P : Type 0} (rule : Goods P → Type 0) (nodes : ℕ) where
       )
 
   -- the store of 2 in its status, with the job in its slot
-  pub readies-job : (slots id : ℕ) (m : SeatState P) (k : ℕ) (steps : List Entry) → m.0.stage ≡ Cleared true → k ≡ 1 + 2 * m.0.number
+  pub readies-job : (slots id : ℕ) (m : SeatState P) (k : ℕ) (steps : List StepEntry) → m.0.stage ≡ Cleared true → k ≡ 1 + 2 * m.0.number
       → Allows (Lawful rule nodes) slots id m k (λ _. 2) (λ _ n. n ≡ (with_steps m.0 (Ready true) steps, m.1))
   readies-job slots id m k steps mine is s o long me _ =
       let n : ℕ = m.0.number in

@@ -7,7 +7,7 @@ use lib.ListN.{get_elem?}
 use Rattle.atomic_table.specs.Table.{State, takes, gives, Valid, Allows, stepped, carried_after}
 use Rattle.atomic_table.proofs.Lists.{set_here, set_else, at_map}
 use Rattle.waiter_chain.specs.declared.view.View.{View}
-use Rattle.waiter_chain.specs.declared.view.Entry.{Entry}
+use Rattle.waiter_chain.specs.declared.view.StepEntry.{StepEntry}
 use Rattle.waiter_chain.specs.declared.view.Stage.{Stage}
 use Rattle.waiter_chain.specs.declared.view.Stage.TheVariants.{Idle, Behind, Done}
 use Rattle.waiter_chain.specs.Goods.{Goods, goods, put, Collects}
@@ -31,7 +31,7 @@ module _ {P : Type 0} where
 
 module _ {P : Type 0} (rule : Goods P → Type 0) (nodes : ℕ) where
   -- the store of 0 in its status, by a node that took its answer
-  pub rests : Collects rule nodes → (slots id : ℕ) (m : SeatState P) (j a : P) (y : Option P) (k : ℕ) (steps : List Entry) → m.0.stage ≡ Done j a → m.1 ≡ (2 + 2 * m.0.number, y) ∷ [] → k ≡ 1 + 2 * m.0.number
+  pub rests : Collects rule nodes → (slots id : ℕ) (m : SeatState P) (j a : P) (y : Option P) (k : ℕ) (steps : List StepEntry) → m.0.stage ≡ Done j a → m.1 ≡ (2 + 2 * m.0.number, y) ∷ [] → k ≡ 1 + 2 * m.0.number
       → Allows (Lawful rule nodes) slots id m k (λ _. 0) (λ _ n. n ≡ (collected m.0 (j, a) steps, []))
   rests law slots id m j a y k steps mine hand is s o long me _ =
       let n : ℕ = m.0.number in
@@ -70,7 +70,7 @@ module _ {P : Type 0} (rule : Goods P → Type 0) (nodes : ℕ) where
       done-idle x y e = cc
 
   -- a node that waits with a job finds the status 3
-  pub finds-done : (s : State (Option P) (View P)) (o : Lawful rule nodes s) (id : ℕ) (m : SeatState P) (b k : ℕ) (i : P) (steps : List Entry) → get_elem? s.views id ≡ some m.0 → m.0.stage ≡ Behind b (Some i) → k ≡ 1 + 2 * m.0.number → get_or s.words k 0 ≡ 3
+  pub finds-done : (s : State (Option P) (View P)) (o : Lawful rule nodes s) (id : ℕ) (m : SeatState P) (b k : ℕ) (i : P) (steps : List StepEntry) → get_elem? s.views id ≡ some m.0 → m.0.stage ≡ Behind b (Some i) → k ≡ 1 + 2 * m.0.number → get_or s.words k 0 ≡ 3
       → 0 < line_weight {P = P} (waits_at m.0.number b) o.done
       → (a : P) × Valid s.homes m.1 (takes (2 + 2 * m.0.number) (Some a)) × Lawful rule nodes (stepped s k 3 id m.1 (with_steps m.0 (Done i a) steps) (takes (2 + 2 * m.0.number) (Some a))) × (o.answered m.0.number ≡ some (i, a))
   finds-done s o id m b k i steps me mine is three there =

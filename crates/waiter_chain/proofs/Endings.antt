@@ -9,7 +9,7 @@ use Rattle.waiter_chain.specs.declared.view.OwnSlot.{OwnSlot}
 use Rattle.waiter_chain.specs.declared.view.OwnSlot.TheVariants.{Unused, InHand, Unrun}
 use Rattle.waiter_chain.specs.declared.view.Ownership.{Ownership}
 use Rattle.waiter_chain.specs.declared.view.Stage.TheVariants.{Owns}
-use Rattle.waiter_chain.specs.declared.view.Event.TheVariants.{Free, Grant}
+use Rattle.waiter_chain.specs.declared.view.StepKind.TheVariants.{Free, Grant}
 use Rattle.waiter_chain.specs.Goods.{Goods, Runs, Pays, Counts, Ends}
 use Rattle.waiter_chain.specs.Chains.{owed, Lawful}
 use Rattle.waiter_chain.specs.Steps.{SeatState, OwnHand, passed, entry, moved, ended, freed, handed}

@@ -7,7 +7,7 @@ use Rattle.atomic_table.proofs.Lists.{set_here, set_else, at_map}
 use Rattle.waiter_chain.specs.declared.view.View.{View}
 use Rattle.waiter_chain.specs.declared.view.Next.{Next}
 use Rattle.waiter_chain.specs.declared.view.Ownership.{Ownership}
-use Rattle.waiter_chain.specs.declared.view.Entry.{Entry}
+use Rattle.waiter_chain.specs.declared.view.StepEntry.{StepEntry}
 use Rattle.waiter_chain.specs.declared.view.Stage.TheVariants.{Idle, Owns}
 use Rattle.waiter_chain.specs.Goods.{Goods, goods, put, Runs, Pays, Ends}
 use Rattle.waiter_chain.specs.Chains.{part_of, desk, Desk, owed, front, line_weight, nobody, owner_weight, Queued, Lawful}
@@ -19,11 +19,11 @@ use Rattle.waiter_chain.proofs.Frees.{held_by, live-owner, owner_seat, owner_apa
 
 module _ {P : Type 0} where
   -- the pass is idle, with this quota and these jobs more, each with its answer
-  abbrev pub ended_with : View P → ℕ → List (P × P) → List Entry → View P
+  abbrev pub ended_with : View P → ℕ → List (P × P) → List StepEntry → View P
   ended_with v q ran steps = record { number = v.number; spare = v.spare; past = v.past; gone = v.gone; linked = v.linked; quota = q; stage = Idle; own = v.own ++ ran; steps = steps }
 
 module _ {P : Type 0} (rule : Goods P → Type 0) (nodes : ℕ) where
-  pub frees-mine : (relates : P → P → P → P → Type 0) → Ends rule nodes relates → (s : State (Option P) (View P)) (o : Lawful rule nodes s) (id : ℕ) (m : SeatState P) (k : Ownership P) (now : P) (z : Option P) (ran : List (P × P)) (q : ℕ) (steps : List Entry)
+  pub frees-mine : (relates : P → P → P → P → Type 0) → Ends rule nodes relates → (s : State (Option P) (View P)) (o : Lawful rule nodes s) (id : ℕ) (m : SeatState P) (k : Ownership P) (now : P) (z : Option P) (ran : List (P × P)) (q : ℕ) (steps : List StepEntry)
       → get_elem? s.views id ≡ some m.0 → m.0.stage ≡ Owns k → k.next ≡ None → k.first ≡ k.end → get_or s.words 0 0 ≡ k.mark
       → m.1 ≡ (0, Some now) ∷ (1 + 2 * m.0.number, z) ∷ [] → Runs relates k.value ran now → Pays (owed k.mine) ran m.0.quota q → q ≤ m.0.quota
       → Lawful rule nodes (stepped s 0 0 id m.1 (ended_with m.0 q ran steps) (chain gives gives))

@@ -4,8 +4,8 @@ use mathlib.Core.Option.{none, Option as Maybe}
 use Rattle.atomic_table.specs.Table.{step, keeps, takes, Allows, stepped}
 use Rattle.atomic_table.proofs.Lists.{set_here, set_else}
 use Rattle.waiter_chain.specs.declared.view.View.{View}
-use Rattle.waiter_chain.specs.declared.view.Entry.{Entry}
-use Rattle.waiter_chain.specs.declared.view.Event.TheVariants.{SetStatus, StoreLink}
+use Rattle.waiter_chain.specs.declared.view.StepEntry.{StepEntry}
+use Rattle.waiter_chain.specs.declared.view.StepKind.TheVariants.{SetStatus, StoreLink}
 use Rattle.waiter_chain.specs.declared.view.Stage.{Stage}
 use Rattle.waiter_chain.specs.declared.view.Stage.TheVariants.{Idle, Holding, Cleared, Ready}
 use Rattle.waiter_chain.specs.Goods.{Goods}
@@ -44,7 +44,7 @@ start-awake P n true = refl
 start-awake P n false = refl
 
 module _ {P : Type 0} (rule : Goods P → Type 0) (nodes : ℕ) where
-  pub holds : (slots id : ℕ) (m : SeatState P) (k : ℕ) (steps : ℕ → List Entry) → m.0.stage ≡ Idle → m.0.gone ≡ false
+  pub holds : (slots id : ℕ) (m : SeatState P) (k : ℕ) (steps : ℕ → List StepEntry) → m.0.stage ≡ Idle → m.0.gone ≡ false
       → Allows (Lawful rule nodes) slots id m k (λ x. x) (λ r n. (y : Option P) × (n ≡ (with_steps m.0 Holding (steps r), (1 + 2 * m.0.number, y) ∷ m.1)))
   holds slots id m k steps idle live-now s o long me _ =
       let n : ℕ = m.0.number in
@@ -71,7 +71,7 @@ module _ {P : Type 0} (rule : Goods P → Type 0) (nodes : ℕ) where
       )
 
   -- the store of 0 in its link
-  pub clears-as : (b : Bool) (slots id : ℕ) (m : SeatState P) (k : ℕ) (steps : List Entry) → m.0.stage ≡ waits_to_enter b → m.0.gone ≡ false → k ≡ 2 + 2 * m.0.number
+  pub clears-as : (b : Bool) (slots id : ℕ) (m : SeatState P) (k : ℕ) (steps : List StepEntry) → m.0.stage ≡ waits_to_enter b → m.0.gone ≡ false → k ≡ 2 + 2 * m.0.number
       → Allows (Lawful rule nodes) slots id m k (λ _. 0) (λ _ n. n ≡ (with_steps m.0 (Cleared b) steps, m.1))
   clears-as b slots id m k steps start live-now is s o long me _ =
       let n : ℕ = m.0.number in
@@ -101,7 +101,7 @@ module _ {P : Type 0} (rule : Goods P → Type 0) (nodes : ℕ) where
       )
 
   -- the store of 1 or 2 in its status
-  pub readies-as : (b : Bool) (slots id : ℕ) (m : SeatState P) (k new : ℕ) (steps : List Entry) → m.0.stage ≡ Cleared b → k ≡ 1 + 2 * m.0.number → new ≡ entering b
+  pub readies-as : (b : Bool) (slots id : ℕ) (m : SeatState P) (k new : ℕ) (steps : List StepEntry) → m.0.stage ≡ Cleared b → k ≡ 1 + 2 * m.0.number → new ≡ entering b
       → Allows (Lawful rule nodes) slots id m k (λ _. new) (λ _ n. n ≡ (with_steps m.0 (Ready b) steps, m.1))
   readies-as b slots id m k new steps mine is what s o long me _ =
       let n : ℕ = m.0.number in

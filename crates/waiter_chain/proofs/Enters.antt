@@ -9,7 +9,7 @@ use Rattle.atomic_table.proofs.Lists.{set_here}
 use Rattle.waiter_chain.specs.declared.view.View.{View}
 use Rattle.waiter_chain.specs.declared.view.Stage.{Stage}
 use Rattle.waiter_chain.specs.declared.view.Stage.TheVariants.{Idle, Ready, Behind, Owns}
-use Rattle.waiter_chain.specs.declared.view.Event.TheVariants.{SwapIn}
+use Rattle.waiter_chain.specs.declared.view.StepKind.TheVariants.{SwapIn}
 use Rattle.waiter_chain.specs.Goods.{Goods}
 use Rattle.waiter_chain.specs.Chains.{Waiter, Line, desk, Desk, Seated, Granted, front, line_weight, Owner, owner_weight, nobody, turn, granted, Queued, Held, Lawful}
 use Rattle.waiter_chain.specs.Steps.{SeatState, ownership, entry, moved, swapped}

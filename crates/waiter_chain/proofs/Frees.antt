@@ -12,10 +12,10 @@ use Rattle.waiter_chain.specs.declared.view.Next.{Next}
 use Rattle.waiter_chain.specs.declared.view.OwnSlot.{OwnSlot}
 use Rattle.waiter_chain.specs.declared.view.OwnSlot.TheVariants.{Unused}
 use Rattle.waiter_chain.specs.declared.view.Ownership.{Ownership}
-use Rattle.waiter_chain.specs.declared.view.Entry.{Entry}
+use Rattle.waiter_chain.specs.declared.view.StepEntry.{StepEntry}
 use Rattle.waiter_chain.specs.declared.view.Stage.TheVariants.{Owns}
 use Rattle.waiter_chain.specs.declared.view.Stage.{Stage}
-use Rattle.waiter_chain.specs.declared.view.Event.TheVariants.{Free, TakeChain}
+use Rattle.waiter_chain.specs.declared.view.StepKind.TheVariants.{Free, TakeChain}
 use Rattle.waiter_chain.specs.Goods.{Goods, goods, put, Pays, Runs, Ends}
 use Rattle.waiter_chain.specs.Chains.{desk, Desk, Seated, Mine, AtRest, front, line_weight, owner_weight, part_of, nobody, turn, Queued, Held, Lawful}
 use Rattle.waiter_chain.specs.Steps.{SeatState, Ranged, passed, retook, entry, with_steps, moved, noted, ended, freed, took, looked, counted}
@@ -61,7 +61,7 @@ module _ {P : Type 0} (rule : Goods P → Type 0) (nodes : ℕ) where
   weigh_bare g n k bare = omega (arith, ap (λ (y : Option (Next P)). line_weight g (front y [])) bare.0)
 
   -- the goods, after the value was put back
-  pub put-back : (relates : P → P → P → P → Type 0) → Ends rule nodes relates → (s : State (Option P) (View P)) (o : Lawful rule nodes s) (id : ℕ) (v : View P) (k : Ownership P) (count : ℕ) (ran : List (P × P)) (now : P) (e : Entry)
+  pub put-back : (relates : P → P → P → P → Type 0) → Ends rule nodes relates → (s : State (Option P) (View P)) (o : Lawful rule nodes s) (id : ℕ) (v : View P) (k : Ownership P) (count : ℕ) (ran : List (P × P)) (now : P) (e : StepEntry)
       → get_elem? s.views id ≡ some v → v.stage ≡ Owns k → HasNone k → count ≤ v.quota → count ≡ length ran → Runs relates k.value ran now
       → rule (goods now (put o.posted v.number none) o.answered (map part_of (set s.views id (ended v count ran e))))
   put-back relates law s o id v k count ran now e me mine bare enough all runs =
@@ -71,7 +71,7 @@ module _ {P : Type 0} (rule : Goods P → Type 0) (nodes : ℕ) where
       (at_map part_of s.views id v me) (subst (λ x. Runs relates x ran now) (held_by s o id v k me mine).4 runs) (subst (λ (y : Maybe P). Pays y ran v.quota q) (sym home.1.1) (omega (arith, enough, all))) home.1.2)
 
   -- an owner sees that others came, and changes no word
-  pub passes : (s : State (Option P) (View P)) (o : Lawful rule nodes s) (id : ℕ) (m : SeatState P) (k : Ownership P) (i : ℕ) (steps : List Entry) → get_elem? s.views id ≡ some m.0 → m.0.stage ≡ Owns k → get_or s.words 0 0 ≢ k.mark
+  pub passes : (s : State (Option P) (View P)) (o : Lawful rule nodes s) (id : ℕ) (m : SeatState P) (k : Ownership P) (i : ℕ) (steps : List StepEntry) → get_elem? s.views id ≡ some m.0 → m.0.stage ≡ Owns k → get_or s.words 0 0 ≢ k.mark
       → Lawful rule nodes (stepped s i (get_or s.words i 0) id m.1 (with_steps m.0 (Owns (passed k)) steps) keeps)
   passes s o id m k i steps me mine others =
       let n : ℕ = m.0.number in let w : View P = with_steps m.0 (Owns (passed k)) steps in let h = held_by s o id m.0 k me mine in

@@ -9,7 +9,7 @@ use Rattle.waiter_chain.specs.declared.view.Next.{Next}
 use Rattle.waiter_chain.specs.declared.view.OwnSlot.{OwnSlot}
 use Rattle.waiter_chain.specs.declared.view.OwnSlot.TheVariants.{Unused}
 use Rattle.waiter_chain.specs.declared.view.Ownership.{Ownership}
-use Rattle.waiter_chain.specs.declared.view.Entry.{Entry}
+use Rattle.waiter_chain.specs.declared.view.StepEntry.{StepEntry}
 use Rattle.waiter_chain.specs.declared.view.Stage.TheVariants.{Idle, Owns}
 use Rattle.waiter_chain.specs.Goods.{Goods, goods, put, Runs, Pays, Ends}
 use Rattle.waiter_chain.specs.Chains.{Waiter, Line, part_of, desk, Desk, Seated, owed, Mine, Waits, Taken, AllWait, HasTaken, front, line_weight, owner_weight, granted, named, Queued, Lawful}
@@ -22,7 +22,7 @@ use Rattle.waiter_chain.proofs.Serves.{mine_owed}
 use Rattle.waiter_chain.proofs.Ends.{ended_with}
 
 module _ {P : Type 0} (rule : Goods P → Type 0) (nodes : ℕ) where
-  pub grants-mine : (relates : P → P → P → P → Type 0) → Ends rule nodes relates → (s : State (Option P) (View P)) (o : Lawful rule nodes s) (id : ℕ) (m : SeatState P) (k : Ownership P) (now : P) (z : Option P) (ran : List (P × P)) (q i new : ℕ) (steps : List Entry)
+  pub grants-mine : (relates : P → P → P → P → Type 0) → Ends rule nodes relates → (s : State (Option P) (View P)) (o : Lawful rule nodes s) (id : ℕ) (m : SeatState P) (k : Ownership P) (now : P) (z : Option P) (ran : List (P × P)) (q i new : ℕ) (steps : List StepEntry)
       → get_elem? s.views id ≡ some m.0 → m.0.stage ≡ Owns k → k.next ≡ None → k.first ≢ k.end → i ≡ 1 + 2 * (k.first - 2) → new ≡ k.end + 4
       → m.1 ≡ (0, Some now) ∷ (1 + 2 * m.0.number, z) ∷ [] → Runs relates k.value ran now → Pays (owed k.mine) ran m.0.quota q → q ≤ m.0.quota
       → Lawful rule nodes (stepped s i new id m.1 (ended_with m.0 q ran steps) (chain gives gives))
@@ -86,7 +86,7 @@ module _ {P : Type 0} (rule : Goods P → Type 0) (nodes : ℕ) where
       (subst (λ (y : Maybe P). Pays y ran m.0.quota q) (sym (mine_owed k.mine (at n) seat.0)) pays) seat.2))))
 
   -- the same, of an owner that has taken the next node's two slots after all, and whose own job slot is at home: it gives back all three
-  pub grants-taken : (s : State (Option P) (View P)) (o : Lawful rule nodes s) (id : ℕ) (m : SeatState P) (k : Ownership P) (x b : ℕ) (j : P) (y : Option P) (i new : ℕ) (steps : List Entry)
+  pub grants-taken : (s : State (Option P) (View P)) (o : Lawful rule nodes s) (id : ℕ) (m : SeatState P) (k : Ownership P) (x b : ℕ) (j : P) (y : Option P) (i new : ℕ) (steps : List StepEntry)
       → get_elem? s.views id ≡ some m.0 → m.0.stage ≡ Owns k → k.next ≡ Some (record { node = x; behind = b; job = j }) → k.mine ≡ Unused → i ≡ 1 + 2 * x → new ≡ k.end + 4
       → m.1 ≡ (2 + 2 * x, y) ∷ (1 + 2 * x, Some j) ∷ (0, Some k.value) ∷ []
       → Lawful rule nodes (stepped s i new id m.1 (with_steps m.0 Idle steps) (chain gives (chain gives gives)))

@@ -8,7 +8,7 @@ use Rattle.waiter_chain.specs.declared.view.View.{View}
 use Rattle.waiter_chain.specs.declared.view.Ownership.{Ownership}
 use Rattle.waiter_chain.specs.declared.view.Stage.{Stage}
 use Rattle.waiter_chain.specs.declared.view.Stage.TheVariants.{Idle, Holding, Cleared, Ready, Behind, Owns, Done}
-use Rattle.waiter_chain.specs.declared.view.Event.TheVariants.{Grant}
+use Rattle.waiter_chain.specs.declared.view.StepKind.TheVariants.{Grant}
 use Rattle.waiter_chain.specs.Goods.{Goods, put, Runs, Ends}
 use Rattle.waiter_chain.specs.Chains.{Waiter, Line, desk, Desk, Seated, AtRest, Keeps, Noted, Waits, AllWait, weigh, line_weight, owner_weight, granted, named, Lawful}
 use Rattle.waiter_chain.specs.Steps.{SeatState, entry, ended, handed}

@@ -5,12 +5,12 @@ use Rattle.waiter_chain.specs.Goods.{Goods, Runs, Counts}
 use Rattle.waiter_chain.specs.Chains.{owed}
 use Rattle.waiter_chain.specs.Steps.{SeatState, Ranged, OwnHand, WinsBack, ownership, ownership_with, ownership_back, seen_job, retook, entry}
 use Rattle.waiter_chain.specs.Calls.{OwnsBy, HasTurn, Won, WonWith, KindSeen, MayEnd, FollowsAs, SawOthers}
-use Rattle.waiter_chain.specs.declared.view.Entry.{Entry}
+use Rattle.waiter_chain.specs.declared.view.StepEntry.{StepEntry}
 use Rattle.waiter_chain.specs.declared.view.Ownership.{Ownership}
 use Rattle.waiter_chain.specs.declared.view.OwnSlot.{OwnSlot}
 use Rattle.waiter_chain.specs.declared.view.OwnSlot.TheVariants.{Unused, InHand, Unrun}
 use Rattle.waiter_chain.specs.Hands.{StandsAt}
-use Rattle.waiter_chain.specs.declared.view.Event.TheVariants.{Free, TakeChain}
+use Rattle.waiter_chain.specs.declared.view.StepKind.TheVariants.{Free, TakeChain}
 use Rattle.waiter_chain.specs.declared.turn.Turn.{Turn}
 use Rattle.waiter_chain.specs.declared.turn.Kind.{Kind}
 use Rattle.waiter_chain.specs.declared.turn.Kind.TheVariants as kind
@@ -24,21 +24,21 @@ module _ {P : Type 0} where
   Stays m n = (n.1 ≡ m.1) × (n.0.number ≡ m.0.number) × (n.0.spare ≡ m.0.spare) × (n.0.past ≡ m.0.past) × (n.0.quota ≡ m.0.quota) × (n.0.own ≡ m.0.own)
 
   abbrev pub Grows : ℕ → SeatState P → SeatState P → Type 0
-  Grows most m n = (made : List Entry) × (n.0.steps ≡ m.0.steps ++ made) × (length made ≤ most)
+  Grows most m n = (made : List StepEntry) × (n.0.steps ≡ m.0.steps ++ made) × (length made ≤ most)
 
   others-stay : (m seen : SeatState P) (k : Ownership P) → SawOthers m seen k → Stays m seen × Grows 1 m seen
   others-stay m seen k = ⊎_elim
       (λ e. subst (λ (x : SeatState P). Stays m x × Grows 1 m x) (sym e) ((refl, refl, refl, refl, refl, refl), ([], append_nil m.0.steps, omega arith)))
       (λ t. subst (λ (x : SeatState P). Stays m x × Grows 1 m x) (sym t.2) ((refl, refl, refl, refl, refl, refl), (entry m.0 Free 0 t.0 ∷ [], refl, omega arith)))
     where
-      append_nil : (xs : List Entry) → xs ≡ xs ++ []
+      append_nil : (xs : List StepEntry) → xs ≡ xs ++ []
       append_nil [] = refl
       append_nil (x ∷ xs) = ap (λ ys. x ∷ ys) (append_nil xs)
 
-  pub grown : (a : ℕ) (m l : SeatState P) (e : Entry) (n : SeatState P) → Grows a m l → n.0.steps ≡ l.0.steps ++ e ∷ [] → Grows (a + 1) m n
+  pub grown : (a : ℕ) (m l : SeatState P) (e : StepEntry) (n : SeatState P) → Grows a m l → n.0.steps ≡ l.0.steps ++ e ∷ [] → Grows (a + 1) m n
   grown a m l e n g is = (g.0 ++ e ∷ [], is ∙ ap (λ xs. xs ++ e ∷ []) g.1 ∙ append_assoc m.0.steps g.0 (e ∷ []), omega (arith, g.2, longer g.0 e))
     where
-      longer : (xs : List Entry) (e : Entry) → length (xs ++ e ∷ []) ≡ length xs + 1
+      longer : (xs : List StepEntry) (e : StepEntry) → length (xs ++ e ∷ []) ≡ length xs + 1
       longer [] e = omega arith
       longer (x ∷ xs) e = omega (arith, longer xs e)
 
@@ -51,7 +51,7 @@ module _ {P : Type 0} where
       ((ap (λ (z : SeatState P). z.1) took.2, ap (λ (z : SeatState P). z.0.number) took.2 ∙ a.1, ap (λ (z : SeatState P). z.0.spare) took.2 ∙ a.2, ap (λ (z : SeatState P). z.0.past) took.2 ∙ a.3, ap (λ (z : SeatState P). z.0.quota) took.2 ∙ a.4, ap (λ (z : SeatState P). z.0.own) took.2 ∙ a.5), g))
       f.3
     where
-      append_nil : (xs : List Entry) → xs ≡ xs ++ []
+      append_nil : (xs : List StepEntry) → xs ≡ xs ++ []
       append_nil [] = refl
       append_nil (x ∷ xs) = ap (λ ys. x ∷ ys) (append_nil xs)
 
@@ -88,16 +88,16 @@ module _ {P : Type 0} where
   owner_put slots t hand value m n k o e = subst (λ (z : SeatState P). OwnsBy slots t value z k) (sym e) (o.0, o.1, o.2, o.3, refl, o.5, o.6)
 
   -- what a pass that has just become the owner may do
-  pub won_turn : (rule : Goods P → Type 0) (slots : ℕ) (t : Turn) (m n : SeatState P) (e : Entry) → Won rule slots t m e n → HasTurn slots t n
+  pub won_turn : (rule : Goods P → Type 0) (slots : ℕ) (t : Turn) (m n : SeatState P) (e : StepEntry) → Won rule slots t m e n → HasTurn slots t n
   won_turn rule slots t m n e w = let hand = ap (λ (z : SeatState P). z.1) w.1 in
       (Some w.0, ownership t.first t.end t.mark false w.0, (ap (λ (z : SeatState P). z.0.stage) w.1, refl, refl, refl, behind_one (0, Some w.0) [] n.1 hand, w.2, (refl, ap (λ (c : List (ℕ × Option P)). rest c) hand)))
 
-  pub won_ends : (relates : P → P → P → P → Type 0) (rule : Goods P → Type 0) (slots : ℕ) (t : Turn) (m n : SeatState P) (e : Entry) → Won rule slots t m e n → MayEnd relates 0 [] n
+  pub won_ends : (relates : P → P → P → P → Type 0) (rule : Goods P → Type 0) (slots : ℕ) (t : Turn) (m n : SeatState P) (e : StepEntry) → Won rule slots t m e n → MayEnd relates 0 [] n
   won_ends relates rule slots t m n e w =
       (ownership t.first t.end t.mark false w.0, w.0, ap (λ (z : SeatState P). z.0.stage) w.1, behind_one (0, Some w.0) [] n.1 (ap (λ (z : SeatState P). z.1) w.1), omega arith, refl, refl)
 
   -- and one that has posted a job, and found the lock free or was granted: its job is in its hand
-  pub posted_turn : (rule : Goods P → Type 0) (slots : ℕ) (t : Turn) (m n : SeatState P) (e : Entry) → t.end ≡ t.first → t.mark ≡ t.first → WonWith rule slots t m e n → HasTurn slots t n
+  pub posted_turn : (rule : Goods P → Type 0) (slots : ℕ) (t : Turn) (m n : SeatState P) (e : StepEntry) → t.end ≡ t.first → t.mark ≡ t.first → WonWith rule slots t m e n → HasTurn slots t n
   posted_turn rule slots t m n e ends marks w =
       let hand : n.1 ≡ (0, Some w.0) ∷ (1 + 2 * m.0.number, Some w.1) ∷ [] = ap (λ (z : SeatState P). z.1) w.3 ∙ ap (λ (c : List (ℕ × Option P)). (0, Some w.0) ∷ c) w.2 in
       let number : n.0.number ≡ m.0.number = ap (λ (z : SeatState P). z.0.number) w.3 in (
@@ -114,7 +114,7 @@ module _ {P : Type 0} where
         ),
       )
 
-  pub back_turn : (rule : Goods P → Type 0) (slots : ℕ) (t : Turn) (m n : SeatState P) (job : P) (e : Entry) → t.mark ≡ 1 → m.1 ≡ [] → Ranged slots t.first t.end → WinsBack rule m job t.first t.end e n → HasTurn slots t n
+  pub back_turn : (rule : Goods P → Type 0) (slots : ℕ) (t : Turn) (m n : SeatState P) (job : P) (e : StepEntry) → t.mark ≡ 1 → m.1 ≡ [] → Ranged slots t.first t.end → WinsBack rule m job t.first t.end e n → HasTurn slots t n
   back_turn rule slots t m n job e one empty ranged w =
       let hand : n.1 ≡ (0, Some w.0) ∷ (1 + 2 * m.0.number, Some job) ∷ [] = ap (λ (z : SeatState P). z.1) w.1 ∙ ap (λ (c : List (ℕ × Option P)). (0, Some w.0) ∷ (1 + 2 * m.0.number, Some job) ∷ c) empty in
       let number : n.0.number ≡ m.0.number = ap (λ (z : SeatState P). z.0.number) w.1 in (

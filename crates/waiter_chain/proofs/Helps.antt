@@ -5,7 +5,7 @@ use Rattle.atomic_table.specs.Table.{step, rest, Allows}
 use Rattle.waiter_chain.specs.declared.view.Next.{Next}
 use Rattle.waiter_chain.specs.declared.view.Ownership.{Ownership}
 use Rattle.waiter_chain.specs.declared.view.Stage.TheVariants.{Idle, Owns, Done}
-use Rattle.waiter_chain.specs.declared.view.Event.TheVariants.{SetStatus, LoadStatus, LoadKind, LoadLink, Serve}
+use Rattle.waiter_chain.specs.declared.view.StepKind.TheVariants.{SetStatus, LoadStatus, LoadKind, LoadLink, Serve}
 use Rattle.waiter_chain.specs.Goods.{Goods, Runs, Counts, Ends, Serves, Collects}
 use Rattle.waiter_chain.specs.Chains.{owed, front, Queued, Lawful}
 use Rattle.waiter_chain.specs.Steps.{SeatState, entry, kind_seen, link_seen, job_done, rested, holding}

@@ -5,10 +5,10 @@ use lib.ListN.{get_elem?}
 use Rattle.atomic_table.specs.Table.{step, keeps, takes, chain, Allows, stepped}
 use Rattle.atomic_table.proofs.Lists.{at_map}
 use Rattle.waiter_chain.specs.declared.view.View.{View}
-use Rattle.waiter_chain.specs.declared.view.Entry.{Entry}
+use Rattle.waiter_chain.specs.declared.view.StepEntry.{StepEntry}
 use Rattle.waiter_chain.specs.declared.view.Stage.{Stage}
 use Rattle.waiter_chain.specs.declared.view.Stage.TheVariants.{Idle, Holding, Cleared, Ready, Behind, Owns, Done}
-use Rattle.waiter_chain.specs.declared.view.Event.TheVariants.{LoadStatus}
+use Rattle.waiter_chain.specs.declared.view.StepKind.TheVariants.{LoadStatus}
 use Rattle.waiter_chain.specs.Goods.{part, goods, Goods}
 use Rattle.waiter_chain.specs.Chains.{Waiter, desk, Desk, kind, Finished, line_weight, part_of, granted, Queued, Held, Lawful}
 use Rattle.waiter_chain.specs.Steps.{SoundJob, SoundAnswer, SeatState, Ranged, ownership_back, entry, moved, polled_job, polled}
@@ -44,7 +44,7 @@ module _ {P : Type 0} (rule : Goods P → Type 0) (nodes : ℕ) where
   polls-job known tells slots id m k b i mine is s o long me _ =
       let n : ℕ = m.0.number in let r : ℕ = get_or s.words k 0 in let y : P = o.value in
       let at : ℕ → Desk P = desk s.words s.homes o.posted o.answered in
-      let e : Entry = entry m.0 LoadStatus k r in let steps : List Entry = m.0.steps ++ e ∷ [] in
+      let e : StepEntry = entry m.0 LoadStatus k r in let steps : List StepEntry = m.0.steps ++ e ∷ [] in
       let live-now = live rule nodes s o id m.0 me (λ z. behind-idle P b (Some i) (sym mine ∙ z)) in
       let read : r ≡ (at n).status = ap (λ (x : ℕ). get_or s.words x 0) is in
       ⊎_elim

@@ -6,7 +6,7 @@ use native.Mathlib.Decide.{ℕ_discrete}
 use Rattle.atomic_table.specs.Table.{step, keeps, Allows}
 use Rattle.waiter_chain.specs.declared.view.View.{View}
 use Rattle.waiter_chain.specs.declared.view.Next.{Next}
-use Rattle.waiter_chain.specs.declared.view.Event.TheVariants.{StoreLink}
+use Rattle.waiter_chain.specs.declared.view.StepKind.TheVariants.{StoreLink}
 use Rattle.waiter_chain.specs.declared.view.Stage.{Stage}
 use Rattle.waiter_chain.specs.declared.view.Stage.TheVariants.{Idle, Holding, Cleared, Ready, Behind, Owns, Done}
 use Rattle.waiter_chain.specs.Goods.{Goods, goods}

@@ -6,7 +6,7 @@ use Rattle.waiter_chain.specs.declared.view.Next.{Next}
 use Rattle.waiter_chain.specs.declared.view.OwnSlot.{OwnSlot}
 use Rattle.waiter_chain.specs.declared.view.OwnSlot.TheVariants.{Unused, InHand, Unrun}
 use Rattle.waiter_chain.specs.declared.view.Ownership.{Ownership}
-use Rattle.waiter_chain.specs.declared.view.Entry.{Entry}
+use Rattle.waiter_chain.specs.declared.view.StepEntry.{StepEntry}
 use Rattle.waiter_chain.specs.declared.view.Stage.TheVariants.{Cleared, Ready, Owns}
 use Rattle.waiter_chain.specs.Steps.{SeatState, SoundNext, Wins, Ranged, OwnHand, ownership, ownership_with, passed, retook, with_next, run_slot, settled_notes, settled, served, with_steps, paid, moved, stays, entry, posting, link_seen, job_done}
 use Rattle.waiter_chain.specs.Goods.{Goods, part}
@@ -18,13 +18,13 @@ use Rattle.waiter_chain.specs.declared.turn.Kind.TheVariants as kind
 use Rattle.waiter_chain.specs.declared.turn.Entered.TheVariants as entered
 use Rattle.waiter_chain.specs.declared.turn.Follow.{Follow}
 use Rattle.waiter_chain.specs.declared.turn.Follow.TheVariants as follow
-use Rattle.waiter_chain.specs.declared.view.Event.TheVariants.{TakeChain, StoreLink, SetStatus, SwapIn, LoadLink, Serve}
+use Rattle.waiter_chain.specs.declared.view.StepKind.TheVariants.{TakeChain, StoreLink, SetStatus, SwapIn, LoadLink, Serve}
 use Rattle.waiter_chain.specs.Hands.{turned_by}
 use Rattle.waiter_chain.proofs.Rules.{owns-injective}
 use Rattle.waiter_chain.proofs.Turns.{same_first}
 
 module _ {P : Type 0} where
-  pub wins_won : (rule : Goods P → Type 0) (slots : ℕ) (t : Turn) (e : Entry) (m n : SeatState P) → m.1 ≡ [] → Ranged slots t.first t.end → Wins rule m t.first t.end t.mark e n → Won rule slots t m e n
+  pub wins_won : (rule : Goods P → Type 0) (slots : ℕ) (t : Turn) (e : StepEntry) (m n : SeatState P) → m.1 ≡ [] → Ranged slots t.first t.end → Wins rule m t.first t.end t.mark e n → Won rule slots t m e n
   wins_won rule slots t e m n empty ranged w = (w.0, w.1 ∙ ap (λ (l : List (ℕ × Option P)). (moved m.0 (Owns (ownership t.first t.end t.mark false w.0)) e, (0, Some w.0) ∷ l)) empty, ranged, w.2)
 
   -- the facts of a turn, at the notes that the view is known to have
@@ -60,7 +60,7 @@ module _ {P : Type 0} where
               (
                 l,
                 others,
-                w.5.2 ∙ (λ i. (moved l.0 (Owns (took i)) record { number = s.2 i; event = TakeChain; place = 0; word = t.first }, s.1 i)),
+                w.5.2 ∙ (λ i. (moved l.0 (Owns (took i)) record { number = s.2 i; kind = TakeChain; place = 0; word = t.first }, s.1 i)),
               ),
             ),
           ),

@@ -8,7 +8,7 @@ use Rattle.waiter_chain.specs.Calls.{Won, PolledAs}
 use Rattle.waiter_chain.specs.declared.turn.Turn.{Turn}
 use Rattle.waiter_chain.specs.declared.turn.Polled.TheVariants as answer
 use Rattle.waiter_chain.specs.declared.view.Stage.TheVariants.{Behind, Done}
-use Rattle.waiter_chain.specs.declared.view.Event.TheVariants.{LoadStatus}
+use Rattle.waiter_chain.specs.declared.view.StepKind.TheVariants.{LoadStatus}
 use Rattle.waiter_chain.proofs.Passes.{wins_won}
 
 module _ {P : Type 0} (known : Goods P → Type 0) (slots place r b : ℕ) (m n : SeatState P) where

@@ -11,7 +11,7 @@ use Rattle.waiter_chain.specs.declared.view.Next.{Next}
 use Rattle.waiter_chain.specs.declared.view.Ownership.{Ownership}
 use Rattle.waiter_chain.specs.declared.view.Stage.{Stage}
 use Rattle.waiter_chain.specs.declared.view.Stage.TheVariants.{Idle, Holding, Cleared, Ready, Behind, Owns, Done}
-use Rattle.waiter_chain.specs.declared.view.Event.TheVariants.{LoadStatus}
+use Rattle.waiter_chain.specs.declared.view.StepKind.TheVariants.{LoadStatus}
 use Rattle.waiter_chain.specs.Goods.{part, Goods}
 use Rattle.waiter_chain.specs.Chains.{Waiter, Line, desk, Desk, kind, AllWait, AllDone, front, Weight, weigh, line_weight, Owner, owner_weight, nobody, turn, granted, Queued, Held, Lawful}
 use Rattle.waiter_chain.specs.Steps.{Sound, SeatState, Ranged, ownership, entry, moved, polled_plain}

@@ -7,8 +7,8 @@ use Rattle.atomic_table.specs.Table.{step, takes, gives, Allows, stepped, carrie
 use Rattle.atomic_table.proofs.Lists.{set_here, set_else, at_map}
 use Rattle.waiter_chain.specs.declared.view.View.{View}
 use Rattle.waiter_chain.specs.declared.view.Ownership.{Ownership}
-use Rattle.waiter_chain.specs.declared.view.Entry.{Entry}
-use Rattle.waiter_chain.specs.declared.view.Event.TheVariants.{SwapIn}
+use Rattle.waiter_chain.specs.declared.view.StepEntry.{StepEntry}
+use Rattle.waiter_chain.specs.declared.view.StepKind.TheVariants.{SwapIn}
 use Rattle.waiter_chain.specs.declared.view.Stage.{Stage}
 use Rattle.waiter_chain.specs.declared.view.Stage.TheVariants.{Idle, Ready, Behind, Owns}
 use Rattle.waiter_chain.specs.Goods.{Goods, goods, part, put, Posts}
@@ -36,7 +36,7 @@ module _ {P : Type 0} (is_job : P → Type 0) (rule : Goods P → Type 0) (nodes
   posts law known tells slots id m job new mine hand some-quota good is s o long me _ =
       let n : ℕ = m.0.number in let found : ℕ = get_or s.words 0 0 in
       let q : ℕ = m.0.quota - 1 in let enough : m.0.quota ≡ q + 1 = omega (arith, some-quota) in
-      let e : Entry = entry m.0 SwapIn 0 found in
+      let e : StepEntry = entry m.0 SwapIn 0 found in
       let at : ℕ → Desk P = desk s.words s.homes o.posted o.answered in
       let live-now = live rule nodes s o id m.0 me (λ z. ready-idle (sym mine ∙ z)) in
       let low = low_number rule nodes s o id m.0 me live-now in

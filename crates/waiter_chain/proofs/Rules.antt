@@ -10,7 +10,7 @@ use Rattle.atomic_table.proofs.Lists.{at_set, at_map, set_else}
 use Rattle.waiter_chain.specs.declared.view.View.{View}
 use Rattle.waiter_chain.specs.declared.view.Next.{Next}
 use Rattle.waiter_chain.specs.declared.view.Ownership.{Ownership}
-use Rattle.waiter_chain.specs.declared.view.Entry.{Entry}
+use Rattle.waiter_chain.specs.declared.view.StepEntry.{StepEntry}
 use Rattle.waiter_chain.specs.Steps.{SeatState, Sound, with_steps}
 use Rattle.waiter_chain.specs.declared.view.Stage.{Stage}
 use Rattle.waiter_chain.specs.declared.view.Stage.TheVariants.{Idle, Holding, Cleared, Ready, Behind, Owns, Done}
@@ -387,7 +387,7 @@ module _ {P : Type 0} (rule : Goods P → Type 0) (nodes : ℕ) where
   parts-same views id v w value posted answered me e = subst (λ ps. rule (goods value posted answered ps)) (sym (map-set_same part_of views id v w me e))
 
   -- a step that changes no word and no stage
-  pub unmoved : (s : State (Option P) (View P)) (o : Lawful rule nodes s) (id : ℕ) (m : SeatState P) (k : ℕ) (steps : List Entry)
+  pub unmoved : (s : State (Option P) (View P)) (o : Lawful rule nodes s) (id : ℕ) (m : SeatState P) (k : ℕ) (steps : List StepEntry)
       → get_elem? s.views id ≡ some m.0 → m.0.gone ≡ false
       → Lawful rule nodes (stepped s k (get_or s.words k 0) id m.1 (with_steps m.0 m.0.stage steps) keeps)
   unmoved s o id m k steps me live-now = let w : View P = with_steps m.0 m.0.stage steps in

@@ -11,7 +11,7 @@ use Rattle.waiter_chain.specs.declared.view.Next.{Next}
 use Rattle.waiter_chain.specs.declared.view.Ownership.{Ownership}
 use Rattle.waiter_chain.specs.declared.view.OwnSlot.{OwnSlot}
 use Rattle.waiter_chain.specs.declared.view.OwnSlot.TheVariants.{Unused, InHand, Unrun}
-use Rattle.waiter_chain.specs.declared.view.Entry.{Entry}
+use Rattle.waiter_chain.specs.declared.view.StepEntry.{StepEntry}
 use Rattle.waiter_chain.specs.declared.view.Stage.TheVariants.{Behind, Owns}
 use Rattle.waiter_chain.specs.Goods.{Goods, goods, part, put, Serves}
 use Rattle.waiter_chain.specs.Chains.{Waiter, Line, part_of, desk, Desk, Seated, Mine, owed, Noted, Waits, Taken, AllWait, HasTaken, HasSeen, front, line_weight, turn, owner_weight, Queued, Lawful}
@@ -37,7 +37,7 @@ module _ {P : Type 0} where
 
 module _ {P : Type 0} (rule : Goods P → Type 0) (nodes : ℕ) where
   -- a load of the next node's link, where its status was found to be 2
-  pub takes-job : (known : Goods P → Type 0) → ((g : Goods P) → rule g → known g) → (slots id : ℕ) (m : SeatState P) (k : Ownership P) (i : ℕ) (steps : ℕ → List Entry) → m.0.stage ≡ Owns k → k.next ≡ None → k.job_waits ≡ true → k.first ≢ k.end → i ≡ 2 + 2 * (k.first - 2)
+  pub takes-job : (known : Goods P → Type 0) → ((g : Goods P) → rule g → known g) → (slots id : ℕ) (m : SeatState P) (k : Ownership P) (i : ℕ) (steps : ℕ → List StepEntry) → m.0.stage ≡ Owns k → k.next ≡ None → k.job_waits ≡ true → k.first ≢ k.end → i ≡ 2 + 2 * (k.first - 2)
       → Allows (Lawful rule nodes) slots id m i (λ x. x)
       (λ r n. (r ≡ 0 → n ≡ (with_steps m.0 m.0.stage (steps r), m.1)) × (r ≢ 0 → (j : P) × (a : Option P) × (n ≡ (with_steps m.0 (Owns (with_next k (k.first - 2) r j)) (steps r), (2 + 2 * (k.first - 2), a) ∷ (1 + 2 * (k.first - 2), Some j) ∷ m.1)) × (m.0.number ≢ k.first - 2) × SoundNext known k.value (part m.0.number m.0.quota m.0.own) (k.first - 2) j (owed k.mine)))
   takes-job known tells slots id m k i steps mine no-next seen some-left is s o long me _ =
@@ -103,7 +103,7 @@ module _ {P : Type 0} (rule : Goods P → Type 0) (nodes : ℕ) where
       ))
 
   -- the store of 3 in the status of the node whose job was run
-  pub serves : (relates : P → P → P → P → Type 0) → Serves rule nodes relates → (slots id : ℕ) (m : SeatState P) (k : Ownership P) (x b : ℕ) (j answer now : P) (z : Option P) (more : List (ℕ × Option P)) (i : ℕ) (steps : List Entry)
+  pub serves : (relates : P → P → P → P → Type 0) → Serves rule nodes relates → (slots id : ℕ) (m : SeatState P) (k : Ownership P) (x b : ℕ) (j answer now : P) (z : Option P) (more : List (ℕ × Option P)) (i : ℕ) (steps : List StepEntry)
       → m.0.stage ≡ Owns k → k.next ≡ Some (record { node = x; behind = b; job = j }) → m.1 ≡ (2 + 2 * x, Some answer) ∷ (1 + 2 * x, z) ∷ (0, Some now) ∷ more → i ≡ 1 + 2 * x → relates k.value j answer now
       → Allows (Lawful rule nodes) slots id m i (λ _. 3) (λ _ n. n ≡ (with_steps m.0 (Owns (served k b now)) steps, (0, Some now) ∷ more))
   serves relates law slots id m k x b j answer now z more i steps mine next hand is ran s o long me _ =

@@ -13,7 +13,7 @@ use Rattle.waiter_chain.specs.Goods.{Goods, goods, put, Runs, Pays, Ends, Serves
 use Rattle.waiter_chain.specs.Chains.{part_of, desk, Desk, Mine, owed, front, line_weight, turn, owner_weight, Lawful}
 use Rattle.view_sums.specs.Sums.{there, map-set, same, same-refl}
 use Rattle.waiter_chain.proofs.Rules.{awake, owns-injective, desk-same, put-other, put-here, waits-other, done-other, taken-other, once, low_number, one_owner, restaged-own}
-use Rattle.waiter_chain.specs.declared.view.Entry.{Entry}
+use Rattle.waiter_chain.specs.declared.view.StepEntry.{StepEntry}
 use Rattle.waiter_chain.specs.Steps.{SeatState, with_steps, run_slot, settled_notes, settled, served}
 use Rattle.waiter_chain.proofs.Serves.{mine_owed, serves}
 use Rattle.waiter_chain.proofs.Frees.{held_by, live-owner, owner_seat, owner_apart}
@@ -55,7 +55,7 @@ module _ {P : Type 0} (rule : Goods P → Type 0) (nodes : ℕ) where
       (subst (λ (y : Maybe P). Pays y ran v.quota q) (sym (mine_owed k.mine (at n) seat.0)) pays) seat.2))
 
   -- the store of 3 in the status of the node whose job was run, by an owner that has run jobs of its own before: it settles them in the same step
-  pub serves-settled : (relates : P → P → P → P → Type 0) → Ends rule nodes relates → Serves rule nodes relates → (slots id : ℕ) (m : SeatState P) (k : Ownership P) (ran : List (P × P)) (q x b : ℕ) (j answer mid now : P) (z : Option P) (more : List (ℕ × Option P)) (i : ℕ) (steps : List Entry)
+  pub serves-settled : (relates : P → P → P → P → Type 0) → Ends rule nodes relates → Serves rule nodes relates → (slots id : ℕ) (m : SeatState P) (k : Ownership P) (ran : List (P × P)) (q x b : ℕ) (j answer mid now : P) (z : Option P) (more : List (ℕ × Option P)) (i : ℕ) (steps : List StepEntry)
       → m.0.stage ≡ Owns k → k.next ≡ Some (record { node = x; behind = b; job = j }) → m.1 ≡ (2 + 2 * x, Some answer) ∷ (1 + 2 * x, z) ∷ (0, Some now) ∷ more → i ≡ 1 + 2 * x
       → Runs relates k.value ran mid → Pays (owed k.mine) ran m.0.quota q → q ≤ m.0.quota → relates mid j answer now
       → Allows (Lawful rule nodes) slots id m i (λ _. 3) (λ _ n. n ≡ (with_steps (settled m.0 q ran (settled_notes k mid)) (Owns (served (settled_notes k mid) b now)) steps, (0, Some now) ∷ more))

@@ -7,7 +7,7 @@ use Rattle.atomic_table.proofs.Lists.{set_here, set_else}
 use Rattle.waiter_chain.specs.declared.view.View.{View}
 use Rattle.waiter_chain.specs.declared.view.Next.{Next}
 use Rattle.waiter_chain.specs.declared.view.Ownership.{Ownership}
-use Rattle.waiter_chain.specs.declared.view.Entry.{Entry}
+use Rattle.waiter_chain.specs.declared.view.StepEntry.{StepEntry}
 use Rattle.waiter_chain.specs.declared.view.Stage.{Stage}
 use Rattle.waiter_chain.specs.declared.view.Stage.TheVariants.{Idle, Behind, Owns}
 use Rattle.waiter_chain.specs.Goods.{Goods}
@@ -24,7 +24,7 @@ job_cases (Some j) f g = f j refl
 
 module _ {P : Type 0} (rule : Goods P → Type 0) (nodes : ℕ) where
   -- a load of the next node's status
-  pub sees : (slots id : ℕ) (m : SeatState P) (k : Ownership P) (i : ℕ) (steps : ℕ → List Entry) → m.0.stage ≡ Owns k → k.next ≡ None → k.first ≢ k.end → i ≡ 1 + 2 * (k.first - 2)
+  pub sees : (slots id : ℕ) (m : SeatState P) (k : Ownership P) (i : ℕ) (steps : ℕ → List StepEntry) → m.0.stage ≡ Owns k → k.next ≡ None → k.first ≢ k.end → i ≡ 1 + 2 * (k.first - 2)
       → Allows (Lawful rule nodes) slots id m i (λ x. x) (λ r n. (r ≡ 1 → n ≡ (with_steps m.0 m.0.stage (steps r), m.1)) × (r ≢ 1 → (r ≡ 2) × (n ≡ (with_steps m.0 (Owns (seen_job k)) (steps r), m.1))))
   sees slots id m k i steps mine no-next some-left is s o long me _ =
       let x : ℕ = k.first - 2 in let r : ℕ = get_or s.words i 0 in let n : ℕ = m.0.number in
@@ -53,7 +53,7 @@ module _ {P : Type 0} (rule : Goods P → Type 0) (nodes : ℕ) where
       (λ plain. let one : r ≡ 1 = read ∙ ap (λ (y : Option P). kind y) plain in (with_steps m.0 m.0.stage (steps r), keeps, tt, unmoved rule nodes s o id m i (steps r) me live-now, ((λ _. refl), λ ne. absurd (ne one))))
 
   -- a load of its own status by a node that waits with a job, and was granted
-  pub takes-back : (s : State (Option P) (View P)) (o : Lawful rule nodes s) (id : ℕ) (m : SeatState P) (b e k : ℕ) (i j : P) (steps : List Entry) → get_elem? s.views id ≡ some m.0 → m.0.stage ≡ Behind b (Some i) → o.owner ≡ granted m.0.number b (Some j) e
+  pub takes-back : (s : State (Option P) (View P)) (o : Lawful rule nodes s) (id : ℕ) (m : SeatState P) (b e k : ℕ) (i j : P) (steps : List StepEntry) → get_elem? s.views id ≡ some m.0 → m.0.stage ≡ Behind b (Some i) → o.owner ≡ granted m.0.number b (Some j) e
       → (j ≡ i) × Valid s.homes m.1 (chain (takes (1 + 2 * m.0.number) (Some i)) (takes 0 (Some o.value)))
       × Lawful rule nodes (stepped s k (get_or s.words k 0) id m.1 (with_steps m.0 (Owns (ownership_back b e i o.value)) steps) (chain (takes (1 + 2 * m.0.number) (Some i)) (takes 0 (Some o.value))))
       × (o.posted m.0.number ≡ some i)

@@ -7,7 +7,7 @@ use Rattle.atomic_table.proofs.Lists.{exchanged, set_here}
 use Rattle.waiter_chain.specs.declared.view.View.{View}
 use Rattle.waiter_chain.specs.declared.view.Stage.{Stage}
 use Rattle.waiter_chain.specs.declared.view.Stage.TheVariants.{Idle, Owns}
-use Rattle.waiter_chain.specs.declared.view.Event.TheVariants.{TryIn}
+use Rattle.waiter_chain.specs.declared.view.StepKind.TheVariants.{TryIn}
 use Rattle.waiter_chain.specs.Goods.{Goods}
 use Rattle.waiter_chain.specs.Chains.{desk, Desk, Seated, line_weight, owner_weight, turn, Lawful}
 use Rattle.waiter_chain.specs.Steps.{SeatState, ownership, entry, moved, tried}

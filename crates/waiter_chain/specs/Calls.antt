@@ -6,8 +6,8 @@ use Rattle.waiter_chain.specs.Steps.{SeatState, Ranged, OwnHand, HasOwn, Sound, 
 use Rattle.waiter_chain.specs.Chains.{entering, owed, kind as status_of}
 use Rattle.waiter_chain.specs.declared.turn.Kind.{Kind}
 use Rattle.waiter_chain.specs.declared.turn.Kind.TheVariants as kind
-use Rattle.waiter_chain.specs.declared.view.Entry.{Entry}
-use Rattle.waiter_chain.specs.declared.view.Event.TheVariants.{SetStatus, SwapIn, TryIn, LoadStatus, Free, TakeChain, StoreLink, LoadKind, LoadLink, Serve}
+use Rattle.waiter_chain.specs.declared.view.StepEntry.{StepEntry}
+use Rattle.waiter_chain.specs.declared.view.StepKind.TheVariants.{SetStatus, SwapIn, TryIn, LoadStatus, Free, TakeChain, StoreLink, LoadKind, LoadLink, Serve}
 use Rattle.waiter_chain.specs.declared.view.Ownership.{Ownership}
 use Rattle.waiter_chain.specs.declared.view.Stage.TheVariants.{Idle, Holding, Cleared, Ready, Behind, Owns, Done}
 use Rattle.waiter_chain.specs.declared.turn.Turn.{Turn}
@@ -46,7 +46,7 @@ module _ {P : Type 0} where
   HasTurn slots t m = (hand : Option P) × (k : Ownership P) × OwnsBy slots t hand m k
 
   -- by the step e the pass has become the owner: the value is in its hand, and the freight's rule holds of it
-  abbrev pub Won : (Goods P → Type 0) → ℕ → Turn → SeatState P → Entry → SeatState P → Type 0
+  abbrev pub Won : (Goods P → Type 0) → ℕ → Turn → SeatState P → StepEntry → SeatState P → Type 0
   Won rule slots t m e n = (y : P) × (n ≡ (moved m.0 (Owns (ownership t.first t.end t.mark false y)) e, (0, Some y) ∷ [])) × Ranged slots t.first t.end × Sound rule y (part m.0.number m.0.quota m.0.own)
 
   -- one exchange found 0: the turn's chain is empty
@@ -67,7 +67,7 @@ module _ {P : Type 0} where
   readied_state b m = (moved (moved m.0 (Cleared b) (entry m.0 StoreLink (2 + 2 * m.0.number) 0)) (Ready b) (entry m.0 SetStatus (1 + 2 * m.0.number) (entering b)), m.1)
 
   -- by the step e the pass has posted a job and become the owner: its job is in its own slot, the value is in its hand, and the freight's rule holds of both
-  abbrev pub WonWith : (Goods P → Type 0) → ℕ → Turn → SeatState P → Entry → SeatState P → Type 0
+  abbrev pub WonWith : (Goods P → Type 0) → ℕ → Turn → SeatState P → StepEntry → SeatState P → Type 0
   WonWith rule slots t m e n = (y : P) × (job : P) × (m.1 ≡ (1 + 2 * m.0.number, Some job) ∷ []) × (n ≡ (paid m.0 (m.0.quota - 1) (Owns (ownership_with t.first job y)) e, (0, Some y) ∷ m.1)) × Ranged slots t.first t.end × SoundJob rule y (part m.0.number (m.0.quota - 1) m.0.own) m.0.number job
 
   -- and has then swapped itself in: the owner found 0, and who is behind another found that word
@@ -121,7 +121,7 @@ module _ {P : Type 0} where
   MayEnd relates count ran m = (k : Ownership P) × (now : P) × (m.0.stage ≡ Owns k) × (m.1 ≡ (0, Some now) ∷ rest m.1) × (count ≤ m.0.quota) × Counts (owed k.mine) ran count × Runs relates k.value ran now
 
   -- by the step e the ownership has ended: the quota has fallen by so many, these jobs stand at the end of the pass's list, each with its answer, and no slot is in hand
-  abbrev pub Ended : ℕ → List (P × P) → Entry → SeatState P → SeatState P → Type 0
+  abbrev pub Ended : ℕ → List (P × P) → StepEntry → SeatState P → SeatState P → Type 0
   Ended count ran e m n = n ≡ (ended m.0 count ran e, [])
 
   -- the owner has seen that others came: by the load, or by an exchange that found another word than its mark

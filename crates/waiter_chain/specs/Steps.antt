@@ -10,9 +10,9 @@ use Rattle.waiter_chain.specs.declared.view.Next.{Next}
 use Rattle.waiter_chain.specs.declared.view.OwnSlot.{OwnSlot}
 use Rattle.waiter_chain.specs.declared.view.OwnSlot.TheVariants.{Unused, InHand, Unrun}
 use Rattle.waiter_chain.specs.declared.view.Ownership.{Ownership}
-use Rattle.waiter_chain.specs.declared.view.Entry.{Entry}
-use Rattle.waiter_chain.specs.declared.view.Event.{Event}
-use Rattle.waiter_chain.specs.declared.view.Event.TheVariants.{SetStatus, SwapIn, TryIn, LoadStatus, Free, TakeChain, Grant, StoreLink, LoadKind, LoadLink, Serve}
+use Rattle.waiter_chain.specs.declared.view.StepEntry.{StepEntry}
+use Rattle.waiter_chain.specs.declared.view.StepKind.{StepKind}
+use Rattle.waiter_chain.specs.declared.view.StepKind.TheVariants.{SetStatus, SwapIn, TryIn, LoadStatus, Free, TakeChain, Grant, StoreLink, LoadKind, LoadLink, Serve}
 use Rattle.waiter_chain.specs.declared.view.Stage.{Stage}
 use Rattle.waiter_chain.specs.declared.view.Stage.TheVariants.{Idle, Holding, Cleared, Ready, Behind, Owns, Done}
 
@@ -97,14 +97,14 @@ module _ {P : Type 0} where
   spent = record { number = 0; spare = 0; past = []; gone = true; linked = false; quota = 0; stage = Idle; own = []; steps = [] }
 
   -- one step of this pass: of this kind, at this place, with this word
-  abbrev pub entry : View P → Event → ℕ → ℕ → Entry
-  entry v event place word = record { number = v.number; event = event; place = place; word = word }
+  abbrev pub entry : View P → StepKind → ℕ → ℕ → StepEntry
+  entry v k place word = record { number = v.number; kind = k; place = place; word = word }
 
-  abbrev pub with_steps : View P → Stage P → List Entry → View P
+  abbrev pub with_steps : View P → Stage P → List StepEntry → View P
   with_steps v stage steps = record { number = v.number; spare = v.spare; past = v.past; gone = v.gone; linked = v.linked; quota = v.quota; stage = stage; own = v.own; steps = steps }
 
   -- a step to this stage
-  abbrev pub moved : View P → Stage P → Entry → View P
+  abbrev pub moved : View P → Stage P → StepEntry → View P
   moved v stage e = with_steps v stage (v.steps ++ e ∷ [])
 
   -- a load that is not listed
@@ -116,19 +116,19 @@ module _ {P : Type 0} where
   settled v q ran r = record { number = v.number; spare = v.spare; past = v.past; gone = v.gone; linked = v.linked; quota = q; stage = Owns r; own = v.own ++ ran; steps = v.steps }
 
   -- the pass is idle, with one job more and its answer
-  abbrev pub collected : View P → P × P → List Entry → View P
+  abbrev pub collected : View P → P × P → List StepEntry → View P
   collected v a steps = record { number = v.number; spare = v.spare; past = v.past; gone = v.gone; linked = v.linked; quota = v.quota; stage = Idle; own = v.own ++ a ∷ []; steps = steps }
 
   -- the pass has paid for one job
-  abbrev pub paid : View P → ℕ → Stage P → Entry → View P
+  abbrev pub paid : View P → ℕ → Stage P → StepEntry → View P
   paid v q stage e = record { number = v.number; spare = v.spare; past = v.past; gone = v.gone; linked = v.linked; quota = q; stage = stage; own = v.own; steps = v.steps ++ e ∷ [] }
 
   -- the pass has stored a link
-  abbrev pub linked_by : View P → Entry → View P
+  abbrev pub linked_by : View P → StepEntry → View P
   linked_by v e = record { number = v.number; spare = v.spare; past = v.past; gone = v.gone; linked = true; quota = v.quota; stage = v.stage; own = v.own; steps = v.steps ++ e ∷ [] }
 
   -- the step that ends an ownership, in which the pass ran these jobs of its own and pays for so many of them
-  abbrev pub ended : View P → ℕ → List (P × P) → Entry → View P
+  abbrev pub ended : View P → ℕ → List (P × P) → StepEntry → View P
   ended v count ran e = record { number = v.number; spare = v.spare; past = v.past; gone = v.gone; linked = v.linked; quota = v.quota - count; stage = Idle; own = v.own ++ ran; steps = v.steps ++ e ∷ [] }
 
   -- the freight's rule holds of this value, beside a pass with this part
@@ -148,10 +148,10 @@ module _ {P : Type 0} where
   SoundAnswer rule own job answer = (g : Goods P) × rule g × ((i : ℕ) × (get_elem? g.parts i ≡ some own)) × (g.answered own.number ≡ some (job, answer))
 
   -- the seat becomes the owner, with the value
-  abbrev pub Wins : (Goods P → Type 0) → SeatState P → ℕ → ℕ → ℕ → Entry → SeatState P → Type 0
+  abbrev pub Wins : (Goods P → Type 0) → SeatState P → ℕ → ℕ → ℕ → StepEntry → SeatState P → Type 0
   Wins rule m first end mark e n = (y : P) × (n ≡ (moved m.0 (Owns (ownership first end mark false y)) e, (0, Some y) ∷ m.1)) × Sound rule y (part m.0.number m.0.quota m.0.own)
 
-  abbrev pub stays : SeatState P → Entry → SeatState P
+  abbrev pub stays : SeatState P → StepEntry → SeatState P
   stays m e = (moved m.0 m.0.stage e, m.1)
 
   abbrev pub tried : (Goods P → Type 0) → Telling P
@@ -188,7 +188,7 @@ module _ {P : Type 0} where
       → (r < 4 → (r ≡ 1) × (n ≡ stays m (entry m.0 LoadStatus st.word r))) × (4 ≤ r → Ranged st.slots b (r - 4) × Wins rule m b (r - 4) 1 (entry m.0 LoadStatus st.word r) n)
 
   -- the seat becomes the owner, with the value and with its own posted job
-  abbrev pub WinsBack : (Goods P → Type 0) → SeatState P → P → ℕ → ℕ → Entry → SeatState P → Type 0
+  abbrev pub WinsBack : (Goods P → Type 0) → SeatState P → P → ℕ → ℕ → StepEntry → SeatState P → Type 0
   WinsBack rule m job first end e n = (y : P) × (n ≡ (moved m.0 (Owns (ownership_back first end job y)) e, (0, Some y) ∷ (1 + 2 * m.0.number, Some job) ∷ m.1)) × SoundJob rule y (part m.0.number m.0.quota m.0.own) m.0.number job
 
   -- a node with a job waits still, or finds that its job has run, or becomes the owner and takes its job back

@@ -1,13 +1,14 @@
 //! The calls on a chain.
 ghost use Rattle.std.specs.Prelude.{◌≡◌, ◌≢◌, ◌⊎◌, ℕ, ◌+◌, ◌-◌, ◌*◌, ◌^◌, ◌<◌, ◌≤◌, [], ◌∷◌, ◌++◌, ◌↔◌, IsTrue, true, false, length, MatchResult, Option};
 ghost use Rattle.atomic_table.specs.Table.{rest};
+ghost use Rattle.waiter_chain.specs.declared.make.TheConstants.{MOST_NODES};
 ghost use Rattle.waiter_chain.specs.Goods.{Goods};
 ghost use Rattle.waiter_chain.specs.Chains.{covers, entering};
 ghost use Rattle.waiter_chain.specs.Steps.{cut_left, cut_right, joined, entry, waits_to_enter};
 ghost use Rattle.waiter_chain.specs.declared.turn.Kind.TheVariants.{Plain, WithJob};
 ghost use Rattle.waiter_chain.specs.Calls.{IsIdle, IsBehind, HasTurn, OwnsBy, TriedIn, WasBusy, MayEnter, readied_state, EnteredAs, WaitsBehind, linked_state, ArrivedAs, PolledAs, FollowsAs, MayEnd, Ended, SawOthers, TookAs};
 ghost use Rattle.waiter_chain.specs.declared.view.Ownership.{Ownership};
-ghost use Rattle.waiter_chain.specs.declared.view.Event.TheVariants as event;
+ghost use Rattle.waiter_chain.specs.declared.view.StepKind.TheVariants as step_kind;
 ghost use Rattle.waiter_chain.specs.declared.view.Stage.TheVariants.{Behind, Owns};
 
 use crate::freight::Freight;
@@ -43,7 +44,7 @@ pub struct Chain<P: Freight> {
     pub(crate) table: Table<Option<P>, View<P>, Opening<P>, Rule<P>, Global>,
     pub(crate) nodes: u64,
     pub(crate) combine: u32,
-    ghost sized: { (table.shared.table_id.words ≡ 1 + 2 * nodes) × (table.shared.table_id.slots ≡ 1 + 2 * nodes) × (nodes ≤ 1048576) × (table.shared.key.nodes ≡ nodes) },
+    ghost sized: { (table.shared.table_id.words ≡ 1 + 2 * nodes) × (table.shared.table_id.slots ≡ 1 + 2 * nodes) × (nodes ≤ MOST_NODES) × (table.shared.key.nodes ≡ nodes) },
 }
 
 /// The token of one node, and of the spare nodes after it. Each call that promises something of the caller takes it.
@@ -341,7 +342,7 @@ impl<P: Freight> Chain<P> {
         requires ends { MayEnd P.relates M.count M.ran pass.old.seat.me }
         requires told { (M.ran ≡ runs.now.log.items) × (M.count ≡ runs.now.count) }
         ensures own { (pass.new.seat.table_id ≡ pass.old.seat.table_id) × (pass.new.seat.id ≡ pass.old.seat.id) }
-        ensures free { result ≡ true → Ended M.count M.ran (entry pass.old.seat.me.0 event.Free 0 turn.now.mark) pass.old.seat.me pass.new.seat.me }
+        ensures free { result ≡ true → Ended M.count M.ran (entry pass.old.seat.me.0 step_kind.Free 0 turn.now.mark) pass.old.seat.me pass.new.seat.me }
         ensures taken { result ≡ false → (k : Ownership P) × (pass.old.seat.me.0.stage ≡ Owns k) × (k.mark ≡ turn.now.mark) × SawOthers pass.old.seat.me pass.new.seat.me k }
     {
         let mark = turn.mark;
@@ -416,7 +417,7 @@ impl<P: Freight> Chain<P> {
         requires ends { MayEnd P.relates M.count M.ran pass.old.seat.me }
         requires told { (M.ran ≡ runs.now.log.items) × (M.count ≡ runs.now.count) }
         ensures own { (pass.new.seat.table_id ≡ pass.old.seat.table_id) × (pass.new.seat.id ≡ pass.old.seat.id) }
-        ensures ended { Ended M.count M.ran (entry pass.old.seat.me.0 event.Grant (1 + 2 * (turn.first - 2)) (turn.end + 4)) pass.old.seat.me pass.new.seat.me }
+        ensures ended { Ended M.count M.ran (entry pass.old.seat.me.0 step_kind.Grant (1 + 2 * (turn.first - 2)) (turn.end + 4)) pass.old.seat.me pass.new.seat.me }
     {
         let Turn {
             first,
@@ -438,7 +439,7 @@ impl<P: Freight> Chain<P> {
         requires waits { turn.first ≢ turn.end }
         requires ends { MayEnd P.relates runs.now.count runs.now.log.items pass.old.seat.me }
         ensures own { (pass.new.seat.table_id ≡ pass.old.seat.table_id) × (pass.new.seat.id ≡ pass.old.seat.id) }
-        ensures ended { Ended runs.now.count runs.now.log.items (entry pass.old.seat.me.0 event.Grant (1 + 2 * (turn.first - 2)) (turn.end + 4)) pass.old.seat.me pass.new.seat.me }
+        ensures ended { Ended runs.now.count runs.now.log.items (entry pass.old.seat.me.0 step_kind.Grant (1 + 2 * (turn.first - 2)) (turn.end + 4)) pass.old.seat.me pass.new.seat.me }
     {
         self.grant_as::<Brand>(pass, turn, runs);
     }

@@ -1,5 +1,6 @@
 //! How a chain is made and closed.
 ghost use Rattle.std.specs.Prelude.{◌≡◌, ◌≢◌, ℕ, ◌+◌, ◌-◌, ◌*◌, ◌<◌, ◌≤◌, [], ◌∷◌, IfOk, Some, None, replicate};
+ghost use Rattle.waiter_chain.specs.declared.make.TheConstants.{MOST_NODES};
 ghost use Rattle.waiter_chain.specs.Steps.{first_view};
 ghost use Rattle.waiter_chain.specs.Calls.{IsIdle};
 ghost use Rattle.waiter_chain.specs.Chains.{Closes, Lawful, covers};
@@ -12,8 +13,11 @@ use atomic_table::{Refused, Seat, Table};
 use std::alloc::{AllocError, Global};
 use std::snapshot::Snapshot;
 
+/// The most nodes of a chain.
+pub const MOST_NODES: u64 = 1 << 20;
+
 fn zeros(alloc: Global, count: u64) -> Result<Vec<u64>, AllocError>
-    requires { count < 4194304 }
+    requires { count ≤ 2 * MOST_NODES + 1 }
     ensures { IfOk result (λ v. v.items ≡ replicate count 0) }
 {
     let mut words = Vec::new(alloc);
@@ -24,7 +28,7 @@ fn zeros(alloc: Global, count: u64) -> Result<Vec<u64>, AllocError>
 }
 
 fn slots<P: Drop>(alloc: Global, count: u64, first: P) -> Result<Vec<Option<P>>, AllocError>
-    requires { count < 4194304 }
+    requires { count ≤ 2 * MOST_NODES }
     ensures { IfOk result (λ v. v.items ≡ Some first ∷ replicate count None) }
 {
     let mut slots = Vec::new(alloc);
@@ -53,7 +57,7 @@ impl<P> Retired<P> {
 }
 
 impl<P: Freight + Drop> Chain<P> {
-    /// A free chain of `nodes` nodes with the value `first`, and the pass that has all numbers and the whole quota. Its
+    /// A free chain of `nodes` nodes (1 to `MOST_NODES`) with the value `first`, and the pass that has all numbers and the whole quota. Its
     /// cost is O(nodes). Where it is refused for want of memory, `first` is dropped.
     pub fn make(
         alloc: Global,
@@ -62,7 +66,7 @@ impl<P: Freight + Drop> Chain<P> {
         combine: u32,
         first: P,
     ) -> Result<(Chain<P>, ChainPass<P>), AllocError>
-        requires nodes { (0 < nodes) × (nodes ≤ 1048576) }
+        requires nodes { (0 < nodes) × (nodes ≤ MOST_NODES) }
         requires admits { P.admits first quota }
         ensures made { IfOk result (λ r. (r.1.seat.table_id ≡ r.0.table.shared.table_id) × (r.1.seat.me ≡ (first_view nodes quota, [])) × (r.0.table.shared.key.first.value ≡ first) × (r.0.table.shared.key.quota ≡ quota) × (r.0.nodes ≡ nodes) × (r.0.combine ≡ combine)) }
         ensures covers { IfOk result (λ r. (n : ℕ) → n < nodes → 0 < covers n r.1.seat.me.0) }

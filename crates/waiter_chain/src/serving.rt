@@ -4,7 +4,7 @@ ghost use Rattle.waiter_chain.specs.Goods.{Goods};
 ghost use Rattle.waiter_chain.specs.Steps.{entry, moved};
 ghost use Rattle.waiter_chain.specs.Calls.{IsIdle, HasTurn, KindSeen, LinkSeen, MayServe, Served, Rested};
 ghost use Rattle.waiter_chain.specs.declared.view.Ownership.{Ownership};
-ghost use Rattle.waiter_chain.specs.declared.view.Event.TheVariants as event;
+ghost use Rattle.waiter_chain.specs.declared.view.StepKind.TheVariants as step_kind;
 ghost use Rattle.waiter_chain.specs.declared.view.Stage.TheVariants.{Done, Holding, Owns};
 
 use crate::chain::{Chain, ChainPass};
@@ -20,7 +20,7 @@ impl<P: Freight> Chain<P> {
         requires own { pass.old.seat.table_id ≡ self.now.table.shared.table_id }
         requires idle { IsIdle pass.old.seat.me }
         ensures own { (pass.new.seat.table_id ≡ pass.old.seat.table_id) × (pass.new.seat.id ≡ pass.old.seat.id) }
-        ensures held { (word : ℕ) × (y : _) × (pass.new.seat.me ≡ (moved pass.old.seat.me.0 Holding (entry pass.old.seat.me.0 event.LoadStatus (1 + 2 * pass.old.seat.me.0.number) word), (1 + 2 * pass.old.seat.me.0.number, y) ∷ [])) }
+        ensures held { (word : ℕ) × (y : _) × (pass.new.seat.me ≡ (moved pass.old.seat.me.0 Holding (entry pass.old.seat.me.0 step_kind.LoadStatus (1 + 2 * pass.old.seat.me.0.number) word), (1 + 2 * pass.old.seat.me.0.number, y) ∷ [])) }
     {
         let status = 1 + 2 * pass.number as usize;
         self.table.shared.load::<Hold>(&mut pass.seat, status);

@@ -1,7 +1,7 @@
 //! The words of a chain of four nodes, step by step.
 ghost use Rattle.std.specs.Prelude.{◌≡◌, None};
 ghost use Rattle.waiter_chain.specs.Calls.{Won, IsIdle, IsBehind, PolledAs};
-ghost use Rattle.waiter_chain.specs.declared.view.Entry.{Entry};
+ghost use Rattle.waiter_chain.specs.declared.view.StepEntry.{StepEntry};
 
 use crate::chain::{Chain, ChainPass};
 use crate::freight::Freight;
@@ -42,7 +42,7 @@ impl Freight for Mark {
 // The owner goes on, and makes the next node the owner, where one waits: this one.
 fn pass_on(chain: &Chain<Mark>, pass: &mut ChainPass<Mark>, turn: Turn) -> Option<u64>
     requires own { pass.old.seat.table_id ≡ chain.now.table.shared.table_id }
-    requires won { (m : _) × (e : Entry) × Won (λ g. Unit {0}) chain.now.table.shared.table_id.slots turn m e pass.old.seat.me }
+    requires won { (m : _) × (e : StepEntry) × Won (λ g. Unit {0}) chain.now.table.shared.table_id.slots turn m e pass.old.seat.me }
     ensures own { (pass.new.seat.table_id ≡ pass.old.seat.table_id) × IsIdle pass.new.seat.me }
 {
     let none = OwnRuns::<Mark>::new();

@@ -1,4 +1,4 @@
-//! What a pass knows of its chain, as plain data. No value of these types but an `Entry`'s parts is ever made: a pass
+//! What a pass knows of its chain, as plain data. No value of these types but an `StepEntry`'s parts is ever made: a pass
 //! carries its view for the proofs alone.
 use std::collections::LinkedList;
 use std::snapshot::Snapshot;
@@ -12,7 +12,7 @@ pub struct Opening<P> {
 }
 
 /// The kinds of step on a word of the chain that a pass lists.
-pub enum Event {
+pub enum StepKind {
     /// A store into its own status.
     SetStatus,
     /// A swap of its own number + 2 into the central word.
@@ -38,10 +38,10 @@ pub enum Event {
 }
 
 /// One step of a pass, as its list of steps keeps it.
-pub struct Entry {
+pub struct StepEntry {
     /// The pass's number at this step.
     pub number: u64,
-    pub event: Event,
+    pub kind: StepKind,
     /// The word's place in the table.
     pub place: u64,
     /// At a store the word that was stored, and else the word that was found.
@@ -118,5 +118,5 @@ pub struct View<P> {
     /// Its own jobs that ran, each with its answer, the earliest first.
     pub own: LinkedList<(P, P)>,
     /// Its steps, the earliest first.
-    pub steps: LinkedList<Entry>,
+    pub steps: LinkedList<StepEntry>,
 }

@@ -4,7 +4,7 @@ use Rattle.hall.specs.Passes.{view}
 use Rattle.hall.specs.Views.{mode_of}
 use Rattle.hall.specs.declared.view.Standing.TheVariants.{Away}
 use Rattle.map_cargo.proofs.Notes.{stores}
-use Rattle.hall.specs.declared.view.Kind.TheVariants.{StoreCargo}
+use Rattle.hall.specs.declared.view.StepKind.TheVariants.{StoreCargo}
 use Rattle.map_cargo.specs.StepLaws.{noted_alike}
 use Rattle.map_cargo.proofs.cells.set_word_by.Goals as goal
 

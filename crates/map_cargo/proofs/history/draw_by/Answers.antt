@@ -10,7 +10,7 @@ use Rattle.map_cargo.specs.History.{IsPlainThen}
 use Rattle.hall.specs.Views.{mode_of}
 use Rattle.hall.specs.declared.view.Standing.TheVariants.{Away}
 use Rattle.map_cargo.proofs.Drawing.{draws}
-use Rattle.hall.specs.declared.view.Kind.TheVariants.{AddCargo}
+use Rattle.hall.specs.declared.view.StepKind.TheVariants.{AddCargo}
 use Rattle.map_cargo.specs.StepLaws.{noted_stays}
 use Rattle.map_cargo.proofs.history.draw_by.Goals as goal
 

@@ -1,7 +1,7 @@
 use Rattle.std.proofs.Common.{true, sym, rules}
 use Rattle.hall.specs.Passes.{view}
 use Rattle.map_cargo.proofs.Drawing.{logs}
-use Rattle.hall.specs.declared.view.Kind.TheVariants.{StoreCargo}
+use Rattle.hall.specs.declared.view.StepKind.TheVariants.{StoreCargo}
 use Rattle.map_cargo.specs.StepLaws.{noted_alike}
 use Rattle.map_cargo.proofs.history.log_by.Goals as goal
 

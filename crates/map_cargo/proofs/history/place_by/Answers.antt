@@ -10,7 +10,7 @@ use Rattle.map_cargo.specs.History.{IsPlainThen}
 use Rattle.hall.specs.Views.{mode_of}
 use Rattle.hall.specs.declared.view.Standing.TheVariants.{Away}
 use Rattle.map_cargo.proofs.Drawing.{places}
-use Rattle.hall.specs.declared.view.Kind.TheVariants.{LoadCargo}
+use Rattle.hall.specs.declared.view.StepKind.TheVariants.{LoadCargo}
 use Rattle.map_cargo.specs.StepLaws.{noted_alike}
 use Rattle.map_cargo.proofs.history.place_by.Goals as goal
 

@@ -1,6 +1,6 @@
 use Rattle.std.specs.Prelude.{false, true}
 use Rattle.std.proofs.Common.{ap, refl, ◌∙◌}
-use Rattle.hall.specs.declared.view.Kind.TheVariants as kinds
+use Rattle.hall.specs.declared.view.StepKind.TheVariants as kinds
 use Rattle.hall.specs.declared.view.View.{View}
 use Rattle.hall.specs.Passes.{view}
 use Rattle.hall.specs.Views.{after_look, entry_of}

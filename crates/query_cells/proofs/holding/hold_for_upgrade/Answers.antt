@@ -4,7 +4,7 @@ use Rattle.shared_mutex.specs.Tries.{IsPatientTry, IsTry}
 use Rattle.shared_mutex.specs.TryLaws.{adds_as}
 use Rattle.sync_cell.specs.Gains.{AnyStep}
 use Rattle.sync_cell.specs.GainLaws.{any_tries, gained_last}
-use Rattle.hall.specs.declared.view.Kind.TheVariants as kinds
+use Rattle.hall.specs.declared.view.StepKind.TheVariants as kinds
 use Rattle.hall.specs.Passes.{view}
 use Rattle.hall.specs.Views.{after_look, entry_of}
 use Rattle.map_cargo.specs.Gaining.{gained_by}

@@ -1,5 +1,5 @@
 use Rattle.std.proofs.Common.{◌<◌, ap, refl, subst, sym, true}
-use Rattle.hall.specs.declared.view.Kind.TheVariants.{UpgradeOut}
+use Rattle.hall.specs.declared.view.StepKind.TheVariants.{UpgradeOut}
 use Rattle.hall.specs.declared.view.Shape.{Shape}
 use Rattle.hall.specs.declared.view.View.{View}
 use Rattle.hall.specs.Passes.{view, cargo_of}

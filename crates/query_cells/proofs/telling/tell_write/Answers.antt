@@ -1,5 +1,5 @@
 use Rattle.std.proofs.Common.{◌≡◌, ℕ, ◌∷◌, ◌++◌, subst, true}
-use Rattle.hall.specs.declared.view.Kind.TheVariants.{AddCargo}
+use Rattle.hall.specs.declared.view.StepKind.TheVariants.{AddCargo}
 use Rattle.hall.specs.Passes.{view, cargo_of}
 use Rattle.map_cargo.specs.Cells.{number_place}
 use Rattle.map_cargo.specs.Steps.{Drew, cargo_step, row_stores}

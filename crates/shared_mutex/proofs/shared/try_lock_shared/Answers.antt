@@ -1,7 +1,7 @@
 use Rattle.std.proofs.Common.{rules, ◌≡◌, true, false, ◌<◌, sym, ap, ◌∙◌, subst, inl, arith}
 use Rattle.lock_model.specs.declared.model.Policy.{Policy}
 use Rattle.state_word.specs.Words.{may_defer_of}
-use Rattle.hall.specs.declared.view.Kind.TheVariants as kinds
+use Rattle.hall.specs.declared.view.StepKind.TheVariants as kinds
 use Rattle.hall.specs.declared.view.Shape.{Shape}
 use Rattle.hall.specs.declared.view.View.{View}
 use Rattle.hall.specs.Passes.{view}

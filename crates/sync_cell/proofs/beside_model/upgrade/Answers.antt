@@ -1,4 +1,4 @@
-use Rattle.hall.specs.declared.view.Kind.TheVariants as kinds
+use Rattle.hall.specs.declared.view.StepKind.TheVariants as kinds
 use Rattle.hall.specs.declared.view.Standing.TheVariants.{Upgrade}
 use Rattle.hall.specs.Passes.{view}
 use Rattle.map_cargo.specs.Gaining.{gained_by}

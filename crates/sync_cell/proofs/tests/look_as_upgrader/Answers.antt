@@ -1,7 +1,7 @@
 use Rattle.std.proofs.Common.{refl, ap, slice_index_or}
 use Rattle.hall.specs.Passes.{view}
 use Rattle.hall.specs.Views.{mode_of}
-use Rattle.hall.specs.declared.view.Kind.TheVariants.{Load}
+use Rattle.hall.specs.declared.view.StepKind.TheVariants.{Load}
 use Rattle.hall.specs.declared.view.Standing.TheVariants.{Away}
 use Rattle.shared_mutex.specs.TryLaws.{looked_once}
 use Rattle.sync_cell.proofs.tests.look_as_upgrader.Goals as goal

@@ -4,7 +4,7 @@ use Rattle.hall.specs.Passes.{view}
 use Rattle.hall.specs.Views.{mode_of}
 use Rattle.shared_mutex.specs.TryLaws.{readers_looked, still_elsewhere}
 use Rattle.sync_cell.specs.Cells.{maps}
-use Rattle.shared_mutex.specs.Tries.{OnlyLooked, ReadersRefused}
+use Rattle.shared_mutex.specs.Tries.{StaysAsItWas, ReadersRefused}
 use Rattle.sync_cell.specs.Attempts.{ReadsAtLast}
 use Rattle.sync_cell.specs.Waits.{AskedInTime, AskedTooLate}
 use Rattle.sync_cell.proofs.Acquired.{patient_looks, patient_reader}
@@ -29,7 +29,7 @@ pub returns-in-Err-clause-step : goal.returns-in-Err-clause-step
 returns-in-Err-clause-step g c = let e = c.in-Err.ensures in let r = e.refuses.3 in let late = c.in-Err.late in let v = view c.args.pass.now in let w = view c.wait_until.new.attempt.pass.now in
     let fs : List TryFault = late.fault ∷ r.0 in
     let counted : loads w ≡ loads v + (length r.0 + 1) = omega (arith, readers_counted maps c.args.cell v w fs r.1) in
-    let step : (faults : List TryFault) × ReadersRefused maps c.args.cell v (late.fault ∷ faults) w × OnlyLooked v c.args.cell w × AskedTooLate g.T.Clock.last g.T.Clock.answers c.args.deadline (length faults + 1) c.args.clock.now c.wait_until.new.clock late.now =
+    let step : (faults : List TryFault) × ReadersRefused maps c.args.cell v (late.fault ∷ faults) w × StaysAsItWas v c.args.cell w × AskedTooLate g.T.Clock.last g.T.Clock.answers c.args.deadline (length faults + 1) c.args.clock.now c.wait_until.new.clock late.now =
     (r.0, r.1, readers_looked maps v c.args.cell w fs r.1, too_late g.T.Clock.last g.T.Clock.answers c.args.deadline (length r.0 + 1) (loads v) (loads w) c.args.clock.now c.wait_until.new.clock late.now e.too_late e.late e.now counted) in
     search rules
 

@@ -1,5 +1,5 @@
 use Rattle.std.proofs.Common.{refl, sym, ap, ◌∙◌, subst}
-use Rattle.hall.specs.declared.view.Kind.TheVariants.{Up}
+use Rattle.hall.specs.declared.view.StepKind.TheVariants.{Up}
 use Rattle.hall.specs.declared.view.View.{View}
 use Rattle.hall.specs.Passes.{view}
 use Rattle.hall.specs.Reasons.{found_changed}

@@ -1,5 +1,5 @@
 use Rattle.std.proofs.Common.{◌≡◌, true, sym, ap, ◌∙◌}
-use Rattle.hall.specs.declared.view.Kind.TheVariants.{UpgradeIn}
+use Rattle.hall.specs.declared.view.StepKind.TheVariants.{UpgradeIn}
 use Rattle.hall.specs.declared.view.View.{View}
 use Rattle.hall.specs.Passes.{view}
 use Rattle.hall.specs.Plays.{conflicts_for_announcing}

@@ -1,7 +1,7 @@
 use Rattle.std.proofs.Common.{◌≡◌, ℕ, suc, ◌+◌, ◌*◌, [], ◌∷◌, Some, sym, ap, ◌∙◌, subst}
 use Rattle.waiter_chain.specs.Goods.{Part, part}
 use Rattle.waiter_chain.specs.Steps.{SoundAnswer, entry, stays}
-use Rattle.waiter_chain.specs.declared.view.Event.TheVariants.{LoadStatus}
+use Rattle.waiter_chain.specs.declared.view.StepKind.TheVariants.{LoadStatus}
 use Rattle.waiter_chain.specs.declared.view.Stage.TheVariants.{Behind}
 use Rattle.combine_job.specs.declared.parcel.Parcel.TheVariants.{Posted}
 use Rattle.combine_job.specs.Parcels.{Ruled}

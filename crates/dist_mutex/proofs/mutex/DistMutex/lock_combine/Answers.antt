@@ -1,8 +1,8 @@
 use Rattle.std.proofs.Common.{◌≡◌, ℕ, ◌+◌, ◌-◌, ◌*◌, List, [], ◌∷◌, ◌++◌, length, Some, true, refl, sym, ap, ◌∙◌, subst, inl, inr, append_assoc, arith}
 use Rattle.waiter_chain.specs.Steps.{entry, paid}
 use Rattle.waiter_chain.specs.Calls.{readied_state}
-use Rattle.waiter_chain.specs.declared.view.Entry.{Entry}
-use Rattle.waiter_chain.specs.declared.view.Event.TheVariants.{SwapIn, StoreLink, LoadStatus, SetStatus}
+use Rattle.waiter_chain.specs.declared.view.StepEntry.{StepEntry}
+use Rattle.waiter_chain.specs.declared.view.StepKind.TheVariants.{SwapIn, StoreLink, LoadStatus, SetStatus}
 use Rattle.waiter_chain.specs.declared.turn.Turn.{Turn}
 use Rattle.waiter_chain.specs.declared.view.Stage.TheVariants.{Behind}
 use Rattle.waiter_chain.proofs.Turns.{same_first}
@@ -22,7 +22,7 @@ run_back-requires-clause-runs g c =
 pub run_back-requires-clause-posted : goal.run_back-requires-clause-posted
 run_back-requires-clause-posted g c =
     let m = c.args.pass.now.pass.seat.me in let job = c.args.job in let a = c.in-Owner.ensures.answer in let t = c.in-Owner.turn in let n = c.post.new.pass.seat.me in
-    let h = held_state a.0 (Some (Posted job)) m in let e : Entry = entry h.0 SwapIn 0 0 in let w = a.1 in
+    let h = held_state a.0 (Some (Posted job)) m in let e : StepEntry = entry h.0 SwapIn 0 0 in let w = a.1 in
     let won = won_posted g.V.Room.rooms g.J.Job.means g.J.Job.is_ready c.args.self.now.chain.table.shared.key c.args.self.now.chain.table.shared.table_id.slots t (readied_state true h) n e job refl (w.2 ∙ sym w.1) (w.3 ∙ sym w.1) w.0 in
     (job, won.0)
 
@@ -41,7 +41,7 @@ await_answer-requires-clause-behind g c =
 pub returns-in-Owner-clause-answered : goal.returns-in-Owner-clause-answered
 returns-in-Owner-clause-answered g c =
     let m = c.args.pass.now.pass.seat.me in let job = c.args.job in let a = c.in-Owner.ensures.answer in let t = c.in-Owner.turn in let n = c.post.new.pass.seat.me in
-    let h = held_state a.0 (Some (Posted job)) m in let e : Entry = entry h.0 SwapIn 0 0 in let w = a.1 in
+    let h = held_state a.0 (Some (Posted job)) m in let e : StepEntry = entry h.0 SwapIn 0 0 in let w = a.1 in
     let won = won_posted g.V.Room.rooms g.J.Job.means g.J.Job.is_ready c.args.self.now.chain.table.shared.key c.args.self.now.chain.table.shared.table_id.slots t (readied_state true h) n e job refl (w.2 ∙ sym w.1) (w.3 ∙ sym w.1) w.0 in
     let r = c.run_back.ensures.answered job won.0 in let z = c.run_back.new.pass.pass.seat.me in let answer = c.run_back.result in
     let went = posted_went m n (readied_state true h).0 n.0.stage _ _ _ _ n.1 refl refl refl refl refl won.1 in
@@ -50,7 +50,7 @@ returns-in-Owner-clause-answered g c =
 pub returns-in-Owner-clause-related : goal.returns-in-Owner-clause-related
 returns-in-Owner-clause-related g c =
     let m = c.args.pass.now.pass.seat.me in let job = c.args.job in let a = c.in-Owner.ensures.answer in let t = c.in-Owner.turn in let n = c.post.new.pass.seat.me in
-    let h = held_state a.0 (Some (Posted job)) m in let e : Entry = entry h.0 SwapIn 0 0 in let w = a.1 in
+    let h = held_state a.0 (Some (Posted job)) m in let e : StepEntry = entry h.0 SwapIn 0 0 in let w = a.1 in
     let won = won_posted g.V.Room.rooms g.J.Job.means g.J.Job.is_ready c.args.self.now.chain.table.shared.key c.args.self.now.chain.table.shared.table_id.slots t (readied_state true h) n e job refl (w.2 ∙ sym w.1) (w.3 ∙ sym w.1) w.0 in
     let r = c.run_back.ensures.answered job won.0 in let z = c.run_back.new.pass.pass.seat.me in let answer = c.run_back.result in
     let went = posted_went m n (readied_state true h).0 n.0.stage _ _ _ _ n.1 refl refl refl refl refl won.1 in
@@ -59,7 +59,7 @@ returns-in-Owner-clause-related g c =
 pub returns-in-Owner-clause-rises : goal.returns-in-Owner-clause-rises
 returns-in-Owner-clause-rises g c p far =
     let m = c.args.pass.now.pass.seat.me in let job = c.args.job in let a = c.in-Owner.ensures.answer in let t = c.in-Owner.turn in let n = c.post.new.pass.seat.me in
-    let h = held_state a.0 (Some (Posted job)) m in let e : Entry = entry h.0 SwapIn 0 0 in let w = a.1 in
+    let h = held_state a.0 (Some (Posted job)) m in let e : StepEntry = entry h.0 SwapIn 0 0 in let w = a.1 in
     let won = won_posted g.V.Room.rooms g.J.Job.means g.J.Job.is_ready c.args.self.now.chain.table.shared.key c.args.self.now.chain.table.shared.table_id.slots t (readied_state true h) n e job refl (w.2 ∙ sym w.1) (w.3 ∙ sym w.1) w.0 in
     let r = c.run_back.ensures.answered job won.0 in let z = c.run_back.new.pass.pass.seat.me in let answer = c.run_back.result in
     let went = posted_went m n (readied_state true h).0 n.0.stage _ _ _ _ n.1 refl refl refl refl refl won.1 in
@@ -104,7 +104,7 @@ returns-in-Waiting-clause-rises g c p far =
 pub returns-in-Owner-clause-steps : goal.returns-in-Owner-clause-steps
 returns-in-Owner-clause-steps g c =
     let m = c.args.pass.now.pass.seat.me in let job = c.args.job in let a = c.in-Owner.ensures.answer in let t = c.in-Owner.turn in let n = c.post.new.pass.seat.me in
-    let h = held_state a.0 (Some (Posted job)) m in let e : Entry = entry h.0 SwapIn 0 0 in let w = a.1 in
+    let h = held_state a.0 (Some (Posted job)) m in let e : StepEntry = entry h.0 SwapIn 0 0 in let w = a.1 in
     let won = won_posted g.V.Room.rooms g.J.Job.means g.J.Job.is_ready c.args.self.now.chain.table.shared.key c.args.self.now.chain.table.shared.table_id.slots t (readied_state true h) n e job refl (w.2 ∙ sym w.1) (w.3 ∙ sym w.1) w.0 in
     let r = c.run_back.ensures.answered job won.0 in let z = c.run_back.new.pass.pass.seat.me in let answer = c.run_back.result in
     let went = posted_went m n (readied_state true h).0 n.0.stage _ _ _ _ n.1 refl refl refl refl refl won.1 in

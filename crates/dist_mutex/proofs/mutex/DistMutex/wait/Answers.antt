@@ -1,7 +1,7 @@
 use Rattle.std.proofs.Common.{ℕ, suc, ◌+◌, ◌*◌, None, ap, ◌∙◌, sym, subst}
 use Rattle.waiter_chain.specs.Steps.{SeatState, entry, stays}
 use Rattle.waiter_chain.specs.declared.turn.Turn.{Turn}
-use Rattle.waiter_chain.specs.declared.view.Event.TheVariants.{LoadStatus}
+use Rattle.waiter_chain.specs.declared.view.StepKind.TheVariants.{LoadStatus}
 use Rattle.dist_mutex.specs.Owners.{LockedBy}
 use Rattle.dist_mutex.proofs.Waits.{polled-more, polled_behind}
 use Rattle.dist_mutex.proofs.mutex.DistMutex.wait.Goals as goal

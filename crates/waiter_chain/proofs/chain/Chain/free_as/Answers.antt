@@ -4,7 +4,7 @@ use Rattle.waiter_chain.proofs.Frees.{looks}
 use Rattle.waiter_chain.proofs.Endings.{frees-any}
 use Rattle.waiter_chain.proofs.Passes.{owns_at}
 use Rattle.waiter_chain.specs.Steps.{SeatState, OwnHand, passed, entry, moved}
-use Rattle.waiter_chain.specs.declared.view.Event.TheVariants as event
+use Rattle.waiter_chain.specs.declared.view.StepKind.TheVariants as step_kind
 use Rattle.waiter_chain.specs.declared.view.Stage.TheVariants.{Owns}
 use Rattle.waiter_chain.proofs.chain.Chain.free_as.Goals as goal
 
@@ -35,4 +35,4 @@ returns-else-compare_exchange-mark-clause-taken g c _ =
     let a = owns_at _ c.args.turn.now t.0 p e.0 t.1 e.2 t.2 in
     let l = (c.load.ensures.2 e.0 e.2).0 (c.if-load-mark.false ∙ sym a.3) in
     let n = c.compare_exchange.ensures.2.1 c.if-compare_exchange-mark.false e.0 (ap (λ z. z.0.stage) l) in
-    (e.0, e.2, a.3, inr (c.compare_exchange.result, (λ z. c.if-compare_exchange-mark.false (z ∙ a.3)), n ∙ ap (λ (z : SeatState g.row.P.Denot). (moved z.0 (Owns (passed e.0)) (entry z.0 event.Free 0 c.compare_exchange.result), z.1)) l))
+    (e.0, e.2, a.3, inr (c.compare_exchange.result, (λ z. c.if-compare_exchange-mark.false (z ∙ a.3)), n ∙ ap (λ (z : SeatState g.row.P.Denot). (moved z.0 (Owns (passed e.0)) (entry z.0 step_kind.Free 0 c.compare_exchange.result), z.1)) l))

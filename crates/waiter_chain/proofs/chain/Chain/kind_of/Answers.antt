@@ -1,7 +1,7 @@
 use Rattle.std.proofs.Common.{ℕ, ◌+◌, ◌*◌, ◌-◌, arith, ap, ◌∙◌, sym}
 use Rattle.waiter_chain.specs.Steps.{SeatState, seen_job, moved, entry}
 use Rattle.waiter_chain.specs.declared.view.Stage.TheVariants.{Owns}
-use Rattle.waiter_chain.specs.declared.view.Event.TheVariants as event
+use Rattle.waiter_chain.specs.declared.view.StepKind.TheVariants as step_kind
 use Rattle.waiter_chain.proofs.Helps.{sees-kind}
 use Rattle.waiter_chain.proofs.chain.Chain.kind_of.Goals as goal
 
@@ -16,4 +16,4 @@ load-requires g c =
 pub returns-else-load-eq1-clause-kind : goal.returns-else-load-eq1-clause-kind
 returns-else-load-eq1-clause-kind g c =
     let e = c.load.ensures.2 in let f = e.3 c.if-load-eq1.false in let m : SeatState g.row.P.Denot = c.args.pass.now.seat.me in
-    (e.0, e.1, f.1 ∙ ap (λ (x : ℕ). (moved m.0 (Owns (seen_job e.0)) (entry m.0 event.LoadKind (1 + 2 * (c.args.turn.now.first - 2)) x), m.1)) f.0)
+    (e.0, e.1, f.1 ∙ ap (λ (x : ℕ). (moved m.0 (Owns (seen_job e.0)) (entry m.0 step_kind.LoadKind (1 + 2 * (c.args.turn.now.first - 2)) x), m.1)) f.0)
