@@ -1,6 +1,6 @@
 //! Several locks of a hall at once, each in its own mode. Whoever takes several locks takes them in the order of their
-//! numbers, as Folly's `acquireLocked` does by their addresses: the order in which two passes that take locks by these calls
-//! alone can't wait for each other. The contracts tell the order; of progress they promise nothing.
+//! numbers, as Folly's `acquireLocked` does by their addresses: the order in which two passes that take locks by these
+//! calls alone can't wait for each other. The contracts tell the order; of progress they promise nothing.
 //!
 //! The caller lists its wants in any order, and gets its guards by the position of the want. `lock_many` waits for each
 //! lock in turn. `try_many` tries each once, and gives back what it took where one is refused. No call takes memory.

@@ -40,12 +40,13 @@ pub enum ManyFault {
     },
 }
 
-/// Waits until all locks of the list are held, each in its mode: at most `MANY`, and the pass is away from each. They are
-/// taken in the order of their numbers, whatever the order of the list, and the guards stand by the position of the want.
-/// An empty list gives no guard and makes no step. Its contract holds if it returns.
+/// Waits until all locks of the list are held, each in its mode: at most `MANY`, and the pass is away from each. They
+/// are taken in the order of their numbers, whatever the order of the list, and the guards stand by the position of the
+/// want. An empty list gives no guard and makes no step. Its contract holds if it returns.
 ///
-/// Each step that it makes before it holds a lock is for that lock, by a pass that holds no mode there, and none takes an
-/// announcement back: a writer stays announced between its tries, and a reader that is refused looks, or takes its token back.
+/// Each step that it makes before it holds a lock is for that lock, by a pass that holds no mode there, and none takes
+/// an announcement back: a writer stays announced between its tries, and a reader that is refused looks, or takes its
+/// token back.
 ///
 /// `SameCell` comes exactly where two wants name one lock; then no step was made.
 pub fn lock_many<R: Wait, C: Cargo>(
@@ -80,12 +81,12 @@ pub fn lock_many<R: Wait, C: Cargo>(
     Ok(guards_of(&holds))
 }
 
-/// Tries once for each lock of the list, in the order of their numbers: at most `MANY`, and the pass is away from each. The
-/// guards stand by the position of the want.
+/// Tries once for each lock of the list, in the order of their numbers: at most `MANY`, and the pass is away from each.
+/// The guards stand by the position of the want.
 ///
 /// `Same` comes exactly where two wants name one lock; then no step was made. `Refused` comes exactly where the try for
-/// that want was refused with this fault; what had been taken was given back, and the pass is away from each lock. At most
-/// 2 steps for each slot and 6 more for each want, and then two for each guard.
+/// that want was refused with this fault; what had been taken was given back, and the pass is away from each lock. At
+/// most 2 steps for each slot and 6 more for each want, and then two for each guard.
 pub fn try_many<C: Cargo>(
     hall: &Hall<C>,
     pass: &mut Pass<C>,
@@ -126,8 +127,8 @@ pub fn try_many<C: Cargo>(
     Ok(guards_of(&holds))
 }
 
-/// Gives all locks back, in the order of the positions: by one step each, and by at most two from a slot. The pass's part of the cargo has to be settled for
-/// each lock that it holds exclusively.
+/// Gives all locks back, in the order of the positions: by one step each, and by at most two from a slot. The pass's
+/// part of the cargo has to be settled for each lock that it holds exclusively.
 pub fn unlock_many<C: Cargo>(hall: &Hall<C>, pass: &mut Pass<C>, guards: Guards)
     requires pass { IsPassOf hall.now pass.old }
     requires fits { Fit (shape_of hall.now) (view pass.old) (said_by guards) }

@@ -1,10 +1,11 @@
 //! The sweep of an announced writer: it takes the tokens that stand in slots for its lock, and adds them to the lock's
-//! count, so that the count says how many readers are inside. It is the `applyDeferredReaders` of Folly's `SharedMutex`.
+//! count, so that the count says how many readers are inside. It is the `applyDeferredReaders` of Folly's
+//! `SharedMutex`.
 //!
 //! It stands on `hall`, each of whose events is one atomic step, and adds no step of its own.
 //!
-//! `scan` says which steps it made and with which words: at each slot in turn a look, and where that found a token of the
-//! lock one exchange more; then one addition to the count. No call takes memory or waits.
+//! `scan` says which steps it made and with which words: at each slot in turn a look, and where that found a token of
+//! the lock one exchange more; then one addition to the count. No call takes memory or waits.
 #![tactic(auto)]
 
 ghost use Rattle.std.specs.Prelude.{◌≡◌, ℕ, ◌+◌, ◌*◌, ◌<◌, Bool, true, false, if◌then◌else◌};
@@ -34,9 +35,9 @@ fn sweep_slot<C: Cargo>(hall: &Hall<C>, pass: &mut Pass<C>, lock: u64, slot: u64
     hall.pick(pass, lock, slot)
 }
 
-/// Sweeps for an announced writer that hasn't swept yet: it looks at each slot in turn, clears each that names the lock,
-/// and adds their number to the count by one step, also where it is 0. It answers that number. The writer can then try to
-/// finish. At most 2 steps for each slot, and one more.
+/// Sweeps for an announced writer that hasn't swept yet: it looks at each slot in turn, clears each that names the
+/// lock, and adds their number to the count by one step, also where it is 0. It answers that number. The writer can
+/// then try to finish. At most 2 steps for each slot, and one more.
 pub fn scan<C: Cargo>(hall: &Hall<C>, pass: &mut Pass<C>, announced: &mut Announced) -> u32
     requires pass { IsPassOf hall.now pass.old }
     requires fits { AnnouncedFits (shape_of hall.now) (view pass.old) announced.old }

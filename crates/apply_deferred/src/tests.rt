@@ -98,8 +98,8 @@ fn announces<A: Abort>(
     }
 }
 
-// A writer sweeps the token of a reader that is undecided. The reader finds it gone, and pays the unit that it owes; then
-// the writer takes the lock.
+// A writer sweeps the token of a reader that is undecided. The reader finds it gone, and pays the unit that it owes;
+// then the writer takes the lock.
 #[test]
 fn a_token_is_swept(rt: HostRuntime) {
     let made = Hall::make(rt.alloc(), 1, 8, Policy::WritePriority, 4, 0, NoCargo);

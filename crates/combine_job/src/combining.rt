@@ -52,8 +52,8 @@ pub fn collect<V: Room, J: Job<V>>(
     answer
 }
 
-/// Runs the job of the next node once, at the next position, puts the answer into that node's answer slot, and makes the
-/// node done. The jobs that the owner has run for itself before are settled.
+/// Runs the job of the next node once, at the next position, puts the answer into that node's answer slot, and makes
+/// the node done. The jobs that the owner has run for itself before are settled.
 pub fn run_posted<V: Room, J: Job<V>>(
     chain: &Chain<Parcel<V, J>>,
     pass: &mut ChainPass<Parcel<V, J>>,

@@ -48,8 +48,8 @@ pub fn run_listed<V: Room, J: Job<V>>(
     answered.into_answer()
 }
 
-/// Runs once the job that the owner had posted, and lists it with its answer among those that the owner has run for itself.
-/// It was paid for as it was posted.
+/// Runs once the job that the owner had posted, and lists it with its answer among those that the owner has run for
+/// itself. It was paid for as it was posted.
 pub fn run_taken<V: Room, J: Job<V>>(
     kept: &mut Kept<V>,
     runs: &mut OwnRuns<Parcel<V, J>>,

@@ -1,4 +1,4 @@
-// From words to options.
+//! From words to options.
 ghost use Rattle.std.specs.Prelude.{◌≡◌, ◌≤◌, true, false, IfOk, IfSome, IfErr, IsErrOf, Some, None, map, option_map, codes, string_bytes};
 ghost use Rattle.clap.specs.Words.{app_of, first_of, found_of, matches_of, rows_of, rule_of, takes};
 ghost use Rattle.command_line.specs.Form.{IsWithinLimits, SuitsSoak, count_for, mode_named, number_or, options_in, options_of, policy_or, rows_for, texts_of};
@@ -148,8 +148,8 @@ fn matches_in<'a>(alloc: Global, words: &'a [String]) -> Result<ArgMatches<'a>, 
     Ok(matches)
 }
 
-/// What the words after the program's name ask for. `Usage` comes exactly where they ask for
-/// nothing, and no other word than those is looked at.
+/// What the words after the program's name ask for. `Usage` comes exactly where they ask for nothing, and no other word
+/// than those is looked at.
 pub fn check_words(alloc: Global, words: &[String]) -> Result<Options, WordsFault>
     ensures ok { IfOk result (λ o. options_in words.now ≡ Some o) }
     ensures usage { IsErrOf result WordsFault.Usage → options_in words.now ≡ None }

@@ -1,4 +1,4 @@
-// What the words ask for.
+//! What the words ask for.
 ghost use Rattle.clap.specs.Words.{kind_of};
 ghost use Rattle.clap.specs.declared.error.kind.ErrorKind.TheVariants.{OutOfMemory};
 ghost use Rattle.command_line.specs.declared.options.WordsFault.TheVariants.{Usage, NoMemory};
@@ -21,8 +21,8 @@ pub enum RunMode {
 #[derive(Clone, Copy, Debug, PartialEq, Eq)]
 pub struct Options {
     pub mode: RunMode,
-    /// The most keys that a cell may have, and the most accounts of the ledger: 1 to 65,536, and
-    /// 1,024 without a word. A soak has 16.
+    /// The most keys that a cell may have, and the most accounts of the ledger: 1 to 65,536, and 1,024 without a word.
+    /// A soak has 16.
     pub rows: u64,
     /// Slots that the locks' deferred readers share: 1 to 256, and 32 without a word.
     pub slots: u64,
@@ -30,8 +30,7 @@ pub struct Options {
     pub combine: u32,
     /// Whether a waiting writer keeps new readers out: without a word it does.
     pub policy: Policy,
-    /// The queries of a soak: 1 to 1,000,000, and 1,000 without a word. A run has 1,000 here, which
-    /// it doesn't use.
+    /// The queries of a soak: 1 to 1,000,000, and 1,000 without a word. A run has 1,000 here, which it doesn't use.
     pub count: u64,
 }
 

@@ -1,3 +1,4 @@
+//! Words of a command line, and what they ask for.
 use crate::{Options, Policy, RunMode, WordsFault, check_words};
 use query_rules::MOST_QUERIES;
 use std::test::Fail;

@@ -66,9 +66,9 @@ impl<V: Room, J: Job<V>> DistMutex<V, J> {
         unreachable!()
     }
 
-    /// Posts the job, which runs once: by another owner of the lock, or by this pass once it is the owner, which then gives
-    /// the lock up. The quota falls by 1, and the answer stands at the end of the pass's own list, at a position above all
-    /// that stood there.
+    /// Posts the job, which runs once: by another owner of the lock, or by this pass once it is the owner, which then
+    /// gives the lock up. The quota falls by 1, and the answer stands at the end of the pass's own list, at a position
+    /// above all that stood there.
     pub fn lock_combine<R: Wait>(
         &self,
         rt: &R,

@@ -1,5 +1,5 @@
-//! Many threads at one lock, each with a pass of its own. Afterwards one thread replays all jobs on a plain number, position
-//! by position, and each answer must be the one that it was given.
+//! Many threads at one lock, each with a pass of its own. Afterwards one thread replays all jobs on a plain number,
+//! position by position, and each answer must be the one that it was given.
 ghost use Rattle.std.specs.Prelude.{◌≡◌, ◌+◌, ◌≤◌, length, IfOk};
 ghost use Rattle.std.specs.Thread.{IsSync};
 ghost use Rattle.dist_mutex.specs.Passes.{dist_view, IsDistPassOf, IsAtRest};

@@ -56,8 +56,8 @@ impl<V: Room, J: Job<V>> DistMutex<V, J> {
         self.chain.combine()
     }
 
-    /// Cuts a new pass off: it gets the last `nodes` of the spare numbers, of which the first is its own, and so much of
-    /// the quota. It begins idle, with empty lists.
+    /// Cuts a new pass off: it gets the last `nodes` of the spare numbers, of which the first is its own, and so much
+    /// of the quota. It begins idle, with empty lists.
     pub fn split(&self, pass: &mut DistPass<V, J>, nodes: u64, quota: u64) -> DistPass<V, J>
         requires own { IsDistPassOf self.now pass.old }
         requires idle { IsAtRest pass.old }
@@ -89,8 +89,8 @@ impl<V: Room, J: Job<V>> DistMutex<V, J> {
         self.chain.join(&mut pass.pass, node);
     }
 
-    /// The value at the end, with the number of jobs that ran on it, wherever all passes were joined. The closing pass's
-    /// answers are then those of the whole history. Its cost is O(nodes).
+    /// The value at the end, with the number of jobs that ran on it, wherever all passes were joined. The closing
+    /// pass's answers are then those of the whole history. Its cost is O(nodes).
     pub fn close(self, pass: DistPass<V, J>) -> (Option<Kept<V>>, Retired<Parcel<V, J>>)
         requires own { IsDistPassOf self pass }
         requires idle { IsAtRest pass }

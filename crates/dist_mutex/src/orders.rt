@@ -1,5 +1,5 @@
-//! Three jobs behind an owner that gives the lock up: in each order of arrival, at each limit, as values and as closures, and
-//! with large answers.
+//! Three jobs behind an owner that gives the lock up: in each order of arrival, at each limit, as values and as
+//! closures, and with large answers.
 ghost use Rattle.std.specs.Prelude.{◌≡◌, ◌≤◌};
 
 use crate::mutex::DistMutex;

@@ -35,8 +35,8 @@ impl<V: Room, J: Job<V>> DistMutex<V, J> {
         pass.runs = OwnRuns::new();
     }
 
-    // The turn of an owner whose next node waits with a job; or the lock is given up, to nobody or to a node that waits for
-    // the lock itself.
+    // The turn of an owner whose next node waits with a job; or the lock is given up, to nobody or to a node that waits
+    // for the lock itself.
     fn find_job(&self, pass: &mut DistPass<V, J>, turn: Turn) -> Result<Turn, Next>
         requires own { IsDistPassOf self.now pass.old }
         requires turn { HasTurn (slots_of self.now) turn (dist_state pass.old) }
@@ -155,8 +155,8 @@ impl<V: Room, J: Job<V>> DistMutex<V, J> {
     }
 
     /// Gives the lock up. While the next node of the owner's chain waits with a job and has linked, the owner runs that
-    /// job, as often as the lock's limit allows; then the next node becomes the owner, or where nobody came, nobody. The
-    /// answers of the jobs that the owner ran for itself stand in the pass's own list from then on.
+    /// job, as often as the lock's limit allows; then the next node becomes the owner, or where nobody came, nobody.
+    /// The answers of the jobs that the owner ran for itself stand in the pass's own list from then on.
     pub fn unlock(&self, pass: &mut DistPass<V, J>, owner: Owner<V>) -> Released
         requires own { IsDistPassOf self.now pass.old }
         requires owner { Owning V.rooms J.means (slots_of self.now) (dist_state pass.old) (due_of pass.old) (runs_of pass.old) owner.turn owner.kept }

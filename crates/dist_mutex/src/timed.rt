@@ -60,8 +60,9 @@ impl<'a, V: Room, J: Job<V>> Attempt for Trying<'a, V, J> {
 
 impl<V: Room, J: Job<V>> DistMutex<V, J> {
     /// Tries to take the lock, as [`DistMutex::try_lock`] does, until a try succeeds, or until one was refused and the
-    /// clock, asked next, answers the deadline or later. One try is always made, and the clock, which may fall and jump,
-    /// is asked once after each refused one. The deadline is in the clock's own unit. After a `Late` the pass is idle.
+    /// clock, asked next, answers the deadline or later. One try is always made, and the clock, which may fall and
+    /// jump, is asked once after each refused one. The deadline is in the clock's own unit. After a `Late` the pass is
+    /// idle.
     pub fn lock_until<R: Wait, T: Clock>(
         &self,
         rt: &R,

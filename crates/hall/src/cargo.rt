@@ -5,11 +5,12 @@ ghost use lib.ListN.{get_elem?};
 ghost use Rattle.hall.specs.Cargo.{CargoSeat, Compatible, Lowers, upgrade_mode, exclusive_mode, changed_seat, split_seat, joined_seat, spent_seat};
 ghost use Rattle.lock_model.specs.declared.model.Mode.{Mode};
 
-/// What a hall carries: a rule over its words and over what each pass knows of them, with the laws by which the steps of
-/// the hall keep it.
+/// What a hall carries: a rule over its words and over what each pass knows of them, with the laws by which the steps
+/// of the hall keep it.
 ///
 /// A fact among the members is a proof that each `impl` gives. The words are the cargo's own, counted from 0; a
-/// `CargoSeat` is what the rule sees of one pass: its number, its quota, the mode that it holds at each lock and its part.
+/// `CargoSeat` is what the rule sees of one pass: its number, its quota, the mode that it holds at each lock and its
+/// part.
 pub trait CargoRule {
     /// What a pass knows of the cargo. It is plain data.
     type Part;
@@ -26,8 +27,8 @@ pub trait CargoRule {
     ghost opening: { Self → ℕ → Self.Part };
     /// The part of a pass that was taken in.
     ghost spent: { Self.Part };
-    /// What a pass knows after it gained a mode at a lock where it had none: of the lock, the cargo words of that moment,
-    /// the part before and the part after.
+    /// What a pass knows after it gained a mode at a lock where it had none: of the lock, the cargo words of that
+    /// moment, the part before and the part after.
     ghost gains: { ℕ → List ℕ → Self.Part → Self.Part → Type 0 };
     /// The part after the mode at a lock was lowered or lost: of the lock, what is left of the mode, and the part before.
     ghost lowered: { ℕ → Option Mode → Self.Part → Self.Part };

@@ -20,8 +20,8 @@ impl<C: Cargo> Hall<C> {
         (self.slots + self.locks + place) as usize
     }
 
-    /// Loads the state word of a lock, and notes something in the pass's part of the cargo, by the cargo's words of the same
-    /// moment. The note has to keep the cargo's rule.
+    /// Loads the state word of a lock, and notes something in the pass's part of the cargo, by the cargo's words of the
+    /// same moment. The note has to keep the cargo's rule.
     pub fn load_noted<N: Note<C>>(&self, pass: &mut Pass<C>, lock: u64) -> Word
         requires pass { IsPassOf self.now pass.old }
         requires lock { lock < (shape_of self.now).locks }
@@ -34,8 +34,8 @@ impl<C: Cargo> Hall<C> {
         Word(table.load::<LoadNotedAside<N, C>>(&mut pass.seat, place))
     }
 
-    /// Loads a cargo word. The note says what the pass knows afterwards, by the cargo's words of that moment; it has to keep
-    /// the cargo's rule.
+    /// Loads a cargo word. The note says what the pass knows afterwards, by the cargo's words of that moment; it has to
+    /// keep the cargo's rule.
     pub fn load_cargo<N: Note<C>>(&self, pass: &mut Pass<C>, place: u64) -> u64
         requires pass { IsPassOf self.now pass.old }
         requires place { place < (shape_of self.now).words }

@@ -17,8 +17,8 @@ use lock_model::Policy;
 use std::alloc::Global;
 use std::snapshot::Snapshot;
 
-/// What a hall that was closed leaves: its words, its cargo, how it was made, and, for the proofs, what the closing pass
-/// knew. It comes only from `Hall::close`.
+/// What a hall that was closed leaves: its words, its cargo, how it was made, and, for the proofs, what the closing
+/// pass knew. It comes only from `Hall::close`.
 pub struct Closed<C: Cargo> {
     pub(crate) table: ClosedTable<(), Global>,
     pub(crate) slots: u64,
@@ -73,8 +73,8 @@ impl<C: Cargo> Hall<C> {
     /// Closes the hall with a pass that is away from every lock and at rest.
     ///
     /// The rule of the hall held at the end, with this pass's view among the views: so what its steps and its trail say
-    /// of other passes can be read off. The cargo's rule holds of the words that are left, and where the pass covers all
-    /// numbers, each other pass has nothing left. What is left keeps the pass's view.
+    /// of other passes can be read off. The cargo's rule holds of the words that are left, and where the pass covers
+    /// all numbers, each other pass has nothing left. What is left keeps the pass's view.
     pub fn close(self, pass: Pass<C>) -> Closed<C>
         requires pass { IsPassOf self pass }
         requires away { (lock : ℕ) → standing (view pass) lock ≡ Away }

@@ -199,8 +199,8 @@ impl<C: Cargo> Hall<C> {
         }
     }
 
-    /// Takes an announcement back, at whatever place its sweep stands, with no unit in its hand. It answers the word that
-    /// it found.
+    /// Takes an announcement back, at whatever place its sweep stands, with no unit in its hand. It answers the word
+    /// that it found.
     pub fn retract(&self, pass: &mut Pass<C>, lock: u64) -> Word
         requires pass { IsPassOf self.now pass.old }
         requires lock { lock < (shape_of self.now).locks }

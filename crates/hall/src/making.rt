@@ -27,9 +27,10 @@ pub struct NoMemory;
 impl<C: Cargo> Hall<C> {
     ghost use Rattle.hall.specs.Passes.{view, IsPassOf, shape_of, cargo_of};
 
-    /// Makes a hall of `locks` locks (1 to `MOST_LOCKS`) over `slots` slots (1 to `MOST_SLOTS`), for at most `seats` passes
-    /// (1 to `MOST_SEATS`), with a cargo that admits the quota. All words are 0. It gives the first pass, which has the number 0, all other
-    /// numbers spare and the whole quota. It takes memory for the words, and is the only call of a hall that does.
+    /// Makes a hall of `locks` locks (1 to `MOST_LOCKS`) over `slots` slots (1 to `MOST_SLOTS`), for at most `seats`
+    /// passes (1 to `MOST_SEATS`), with a cargo that admits the quota. All words are 0. It gives the first pass, which
+    /// has the number 0, all other numbers spare and the whole quota. It takes memory for the words, and is the only
+    /// call of a hall that does.
     pub fn make(
         alloc: Global,
         locks: u64,

@@ -45,8 +45,8 @@ impl<C: Cargo> Hall<C> {
         }
     }
 
-    /// Gives the last `seats` of the spare numbers and so much of the quota to a new pass. The new pass has the first of
-    /// these numbers, and the others spare; it is away from every lock, and has no steps and no trail.
+    /// Gives the last `seats` of the spare numbers and so much of the quota to a new pass. The new pass has the first
+    /// of these numbers, and the others spare; it is away from every lock, and has no steps and no trail.
     ///
     /// At its moment, and in whatever state it finds the hall, the rule holds before and after it and nothing moves at
     /// any lock. The moment is told by a load just before, which isn't listed.
@@ -64,11 +64,11 @@ impl<C: Cargo> Hall<C> {
         self.split_by::<Brand>(pass, seats, quota)
     }
 
-    /// Takes in another pass, which is away from every lock and at rest: its quota, its steps and its trail. Its numbers
-    /// aren't given again.
+    /// Takes in another pass, which is away from every lock and at rest: its quota, its steps and its trail. Its
+    /// numbers aren't given again.
     ///
-    /// In whatever state it finds the hall, the rule holds before and after it and nothing moves at any lock. A load just
-    /// after it, which isn't listed, meets the rule with the view that the pass then has.
+    /// In whatever state it finds the hall, the rule holds before and after it and nothing moves at any lock. A load
+    /// just after it, which isn't listed, meets the rule with the view that the pass then has.
     pub fn join(&self, pass: &mut Pass<C>, other: Pass<C>)
         requires pass { IsPassOf self.now pass.old }
         requires other { IsPassOf self.now other }

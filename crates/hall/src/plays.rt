@@ -297,8 +297,8 @@ impl<C: CargoRule> Play<(), View<C::Part>> for UnlistedLook<C> {
     ghost then = { λ st m r n. (n ≡ m) × (m.0.quota < 2 ^ 64) × Met C.CargoRule m.0 };
 }
 
-/// What a step leaves to its pass of the cargo: of the cargo's words of that moment, the word that it found, the part before
-/// and the part after.
+/// What a step leaves to its pass of the cargo: of the cargo's words of that moment, the word that it found, the part
+/// before and the part after.
 pub trait Note<C: CargoRule> {
     ghost use Rattle.std.specs.Prelude.{ℕ, List};
 

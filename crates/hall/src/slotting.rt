@@ -57,8 +57,8 @@ impl<C: Cargo> Hall<C> {
         Word(table.load::<CheckPlay<C>>(&mut pass.seat, place))
     }
 
-    /// An undecided pass takes its token back, by one exchange, and is away. `false`: the token is gone, and the pass owes
-    /// a unit of the count.
+    /// An undecided pass takes its token back, by one exchange, and is away. `false`: the token is gone, and the pass
+    /// owes a unit of the count.
     pub fn withdraw_slot(&self, pass: &mut Pass<C>, lock: u64, slot: u64) -> bool
         requires pass { IsPassOf self.now pass.old }
         requires lock { lock < (shape_of self.now).locks }
@@ -75,8 +75,8 @@ impl<C: Cargo> Hall<C> {
         found == token
     }
 
-    /// A reader with a token in a slot leaves, by one exchange. `false`: the token is gone, and the reader is inside with
-    /// its unit in the count.
+    /// A reader with a token in a slot leaves, by one exchange. `false`: the token is gone, and the reader is inside
+    /// with its unit in the count.
     pub fn leave_slot(&self, pass: &mut Pass<C>, lock: u64, slot: u64) -> bool
         requires pass { IsPassOf self.now pass.old }
         requires lock { lock < (shape_of self.now).locks }
@@ -107,8 +107,8 @@ impl<C: Cargo> Hall<C> {
         table.load::<LookPlay<K, C>>(&mut pass.seat, place)
     }
 
-    /// The sweep of an announced writer looks at the slot at its place. It answers the word there, and goes on to the next
-    /// slot unless that names the lock.
+    /// The sweep of an announced writer looks at the slot at its place. It answers the word there, and goes on to the
+    /// next slot unless that names the lock.
     pub fn look(&self, pass: &mut Pass<C>, lock: u64, slot: u64) -> u64
         requires pass { IsPassOf self.now pass.old }
         requires lock { lock < (shape_of self.now).locks }
@@ -120,8 +120,8 @@ impl<C: Cargo> Hall<C> {
         self.look_for::<Brand>(pass, lock, slot)
     }
 
-    /// The sweep takes the token at its place into its hand, by one exchange, and goes on to the next slot. `false`: the
-    /// slot didn't name the lock any more.
+    /// The sweep takes the token at its place into its hand, by one exchange, and goes on to the next slot. `false`:
+    /// the slot didn't name the lock any more.
     pub fn pick(&self, pass: &mut Pass<C>, lock: u64, slot: u64) -> bool
         requires pass { IsPassOf self.now pass.old }
         requires lock { lock < (shape_of self.now).locks }

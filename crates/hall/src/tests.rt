@@ -284,8 +284,8 @@ fn a_reader_in_a_slot(rt: HostRuntime) {
     word_is(&rt, &hall, &mut three, 1);
 }
 
-// A unit has no owner: who withdraws late clears the token that a newcomer placed in its slot, and the newcomer leaves by
-// the count.
+// A unit has no owner: who withdraws late clears the token that a newcomer placed in its slot, and the newcomer leaves
+// by the count.
 #[test]
 fn a_token_of_a_newcomer(rt: HostRuntime) {
     let made = Hall::make(rt.alloc(), 1, 2, Policy::WritePriority, 3, 0, NoCargo);

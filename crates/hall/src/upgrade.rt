@@ -106,8 +106,8 @@ impl<C: Cargo> Hall<C> {
         Word(table.fetch_xor::<UpRetractPlay<C>>(&mut pass.seat, place, MAY_DEFER + BEGUN))
     }
 
-    /// The writer that was announced from upgrade takes the lock, where no reader is inside. `Err` carries the word that
-    /// was found, whose count isn't 0.
+    /// The writer that was announced from upgrade takes the lock, where no reader is inside. `Err` carries the word
+    /// that was found, whose count isn't 0.
     pub fn hold_from_upgrade(&self, pass: &mut Pass<C>, lock: u64) -> Result<(), Word>
         requires pass { IsPassOf self.now pass.old }
         requires lock { lock < (shape_of self.now).locks }

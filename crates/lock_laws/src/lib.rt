@@ -12,15 +12,15 @@ ghost use Rattle.lock_laws.specs.Laws.{RuleShows, UnitsCountedOnce, MovesKeepLaw
 use hall::CargoRule;
 
 /// Wherever the rule of a hall holds, each of its locks is as the rule shows it: its word has the form of a state word,
-/// the passes' roles are a lawful lock whose bits the word has, each reader's unit is counted once, each slot that names
-/// the lock is accounted for while readers don't defer, and while the lock is held no reader is inside.
+/// the passes' roles are a lawful lock whose bits the word has, each reader's unit is counted once, each slot that
+/// names the lock is accounted for while readers don't defer, and while the lock is held no reader is inside.
 pub fn the_rule_shows_each_lock<C: CargoRule>()
     ensures { RuleShows C.CargoRule }
 {}
 
-/// At the moment of each step for a lock, on its word or on a slot, each reader's unit is counted once, before the step and
-/// after it, however many passes and locks there are: it is inline in the lock's count, in a writer's hand, or a token in a
-/// slot.
+/// At the moment of each step for a lock, on its word or on a slot, each reader's unit is counted once, before the step
+/// and after it, however many passes and locks there are: it is inline in the lock's count, in a writer's hand, or a
+/// token in a slot.
 pub fn each_unit_is_counted_once<C: CargoRule>()
     ensures { UnitsCountedOnce C.CargoRule }
 {}

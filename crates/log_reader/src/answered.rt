@@ -1,4 +1,4 @@
-// A query with its reply.
+//! A query with its reply.
 ghost use Rattle.log_reader.specs.Listing.{IsWritable};
 
 use query_rules::{Query, Reply};

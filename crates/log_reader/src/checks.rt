@@ -1,4 +1,4 @@
-// What a log's lines must meet.
+//! What a log's lines must meet.
 ghost use Rattle.std.specs.Prelude.{◌≡◌, ◌+◌, ◌<◌, ◌≤◌, [], length, IsPermutation, IsSorted, MatchBool};
 ghost use Rattle.std.specs.List.Sorted.{IsNonDecreasingBy};
 ghost use Rattle.std.specs.Ordering.{is_lt};

@@ -1,4 +1,4 @@
-// Why a log was not read.
+//! Why a log was not read.
 ghost use Rattle.std.specs.Prelude.{◌≡◌};
 ghost use Rattle.log_reader.specs.declared.fault.LogFault.TheVariants as fault;
 

@@ -1,4 +1,4 @@
-// Lines by caller and index, put together as lists.
+//! Lines by caller and index, put together as lists.
 ghost use Rattle.std.specs.Prelude.{◌≡◌, ◌≢◌, ◌+◌, ◌<◌, ◌≤◌, ◌++◌, ◌∷◌, [], zero, ℕ, List, length, map, IfOk};
 ghost use Rattle.log_reader.specs.Grouping.{front_of, groups_of, is_next as next_of};
 

@@ -1,8 +1,8 @@
 //! The reading of a log: from its bytes to the script, the rows and the replies.
 //!
-//! [`read_log`] takes exactly the texts that `query_text::write_log` can write. It goes over the
-//! bytes line by line: a line is read word by word, leniently, then written again and compared.
-//! The lines are then put in the order of callers and indexes and made into lists.
+//! [`read_log`] takes exactly the texts that `query_text::write_log` can write. It goes over the bytes line by line: a
+//! line is read word by word, leniently, then written again and compared. The lines are then put in the order of
+//! callers and indexes and made into lists.
 #![tactic(auto)]
 
 mod answered;

@@ -1,4 +1,4 @@
-// The lines of a log, taken off the front of its bytes.
+//! The lines of a log, taken off the front of its bytes.
 ghost use Rattle.std.specs.Prelude.{◌≡◌, ◌≢◌, ◌+◌, ◌<◌, ◌≤◌, ◌++◌, ◌∷◌, [], ℕ, List, length, decimal, codes, map, MatchOption, IfOk, IfSome, IfNone};
 ghost use Rattle.std.specs.List.{AllByRecursion};
 ghost use Rattle.query_rules.specs.Log.{number_line, tables_line, head_text, answer_line};

@@ -1,4 +1,4 @@
-// A log as a list of its lines.
+//! A log as a list of its lines.
 ghost use Rattle.std.specs.Prelude.{◌≡◌, ◌≢◌, ◌+◌, ◌<◌, ◌≤◌, ◌^◌, ◌++◌, ◌∷◌, [], ℕ, List, length, count_by, MatchOption, MatchBool, IfOk, IfErr};
 ghost use Rattle.query_rules.specs.Log.{total_line, totals_text, end_line, is_counted as counted};
 ghost use Rattle.log_reader.specs.Reading.{FailsOnly};

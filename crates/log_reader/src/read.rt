@@ -1,4 +1,4 @@
-// The reading of a log.
+//! The reading of a log.
 ghost use Rattle.std.specs.Prelude.{◌≡◌, ◌≢◌, ℕ, List, IfOk, IfErr};
 ghost use Rattle.query_rules.specs.declared.query.Reply.{Reply};
 ghost use Rattle.query_rules.specs.Grammar.{Asked};
@@ -17,7 +17,7 @@ use query_text::{Outcome, Script};
 use std::alloc::Global;
 
 /// What a log says: the script that was asked, the rows of each cell, and what was replied.
-#[derive(Drop)]
+#[derive(Debug, Drop)]
 pub struct LogRead {
     pub script: Script,
     /// How many keys each cell has room for. The text may tell any number of 64 bits.
@@ -25,12 +25,11 @@ pub struct LogRead {
     pub outcome: Outcome,
 }
 
-/// What a text says, where it is the log of a script with some rows, of replies of the right kinds
-/// in their order; [`LogFault::NotALog`] exactly where it is none.
+/// What a text says, where it is the log of a script with some rows, of replies of the right kinds in their order;
+/// [`LogFault::NotALog`] exactly where it is none.
 ///
-/// One pass over the bytes; then the lines are sorted by caller and index, which takes most of the
-/// time where they are many. Memory is taken for the list of lines and for the lists that are
-/// given back, and none for a line.
+/// One pass over the bytes; then the lines are sorted by caller and index, which takes most of the time where they are
+/// many. Memory is taken for the list of lines and for the lists that are given back, and none for a line.
 pub fn read_log(alloc: Global, bytes: &[u8]) -> Result<LogRead, LogFault>
     ensures read { IfOk result (λ r. IsLogOf r.script r.rows r.outcome bytes.now) }
     ensures none { IfErr result (λ e. FailsOnly e (IsNoLog bytes.now)) }

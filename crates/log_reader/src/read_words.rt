@@ -1,4 +1,4 @@
-// The words of a line, from left to right.
+//! The words of a line, from left to right.
 ghost use Rattle.std.specs.Prelude.{◌≡◌, ◌≤◌, ℕ, List, Ok, Some, map, length, take, IfSome};
 ghost use Rattle.query_rules.specs.Words.{words_of};
 ghost use Rattle.arrayvec.specs.ArrayVec.{array_vec_len};
@@ -292,8 +292,8 @@ fn by_kind(kind: &[u8], words: &[&[u8]]) -> Option<Answered>
     }
 }
 
-/// What a line's words say. It is lenient: it may take words that no line has, and what it answers
-/// is to be written again and compared.
+/// What a line's words say. It is lenient: it may take words that no line has, and what it answers is to be written
+/// again and compared.
 pub fn answered(words: &[&[u8]]) -> Option<Answered>
     ensures { Finds (λ x. x) result (answered_in (map (λ w. w.now) words.now)) }
 {

@@ -1,4 +1,4 @@
-// The sums of a ledger.
+//! The sums of a ledger.
 ghost use Rattle.std.specs.Prelude.{◌≡◌};
 ghost use Rattle.log_reader.specs.Reading.{wide_of};
 

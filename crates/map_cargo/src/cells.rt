@@ -1,8 +1,8 @@
 //! Reading and writing the words of a cell that is held.
 //!
-//! A cell has its length and then its rows, of three words each: used (0 or 1), key and value. The search for a key begins
-//! at its home and goes up from row to row, as far as the key's row or one that isn't used: each row from a key's home up
-//! to its row is used. A deletion closes the gap that it makes.
+//! A cell has its length and then its rows, of three words each: used (0 or 1), key and value. The search for a key
+//! begins at its home and goes up from row to row, as far as the key's row or one that isn't used: each row from a
+//! key's home up to its row is used. A deletion closes the gap that it makes.
 ghost use Rattle.std.specs.Prelude.{◌≡◌, ◌≢◌, ◌<◌, ◌+◌, ◌*◌, ◌∷◌, ◌++◌, ℕ, List, true, length, slice_index, slice_set, Some, None, MatchResult, MatchOption, IfSome};
 ghost use Rattle.hall.specs.Cargo.{exclusive_mode};
 ghost use Rattle.hall.specs.Passes.{view, IsPassOf, cargo_of};
@@ -197,8 +197,8 @@ fn find(hall: &Hall<MapCargo>, pass: &mut Pass<MapCargo>, cell: u64, key: u64) -
     Search::Nowhere
 }
 
-/// The value of a key in a cell, which the pass holds in any mode. It looks at the rows from the key's home on, as far as
-/// the key's or one that isn't used.
+/// The value of a key in a cell, which the pass holds in any mode. It looks at the rows from the key's home on, as far
+/// as the key's or one that isn't used.
 #[tactic(auto, using(crate::specs::StepLaws::alike_then))]
 pub fn get(hall: &Hall<MapCargo>, pass: &mut Pass<MapCargo>, cell: u64, key: u64) -> Option<u64>
     requires pass { IsPassOf hall.now pass.old }
@@ -225,9 +225,9 @@ pub struct CellFull {
     pub rows: u64,
 }
 
-/// Gives a key this value in a cell that the pass holds exclusively, and answers the value before. `CellFull` comes exactly
-/// where the key is absent and each row is used; then nothing is changed. It looks at the rows from the key's home on, as far
-/// as the key's or one that isn't used.
+/// Gives a key this value in a cell that the pass holds exclusively, and answers the value before. `CellFull` comes
+/// exactly where the key is absent and each row is used; then nothing is changed. It looks at the rows from the key's
+/// home on, as far as the key's or one that isn't used.
 pub fn put(
     hall: &Hall<MapCargo>,
     pass: &mut Pass<MapCargo>,
@@ -357,11 +357,12 @@ fn close_gap(hall: &Hall<MapCargo>, pass: &mut Pass<MapCargo>, cell: u64, row: u
     }
 }
 
-/// Removes a key from a cell that the pass holds exclusively, and answers the value that it had. `None` changes nothing.
+/// Removes a key from a cell that the pass holds exclusively, and answers the value that it had. `None` changes
+/// nothing.
 ///
-/// It closes the gap: going up from it, as far as the next row that isn't used or once round, each row that may stand in
-/// the gap moves there, and its own place becomes the gap, from which it goes on. A row may stand in the gap if each row
-/// from its key's home up to the gap is used then.
+/// It closes the gap: going up from it, as far as the next row that isn't used or once round, each row that may stand
+/// in the gap moves there, and its own place becomes the gap, from which it goes on. A row may stand in the gap if each
+/// row from its key's home up to the gap is used then.
 pub fn del(hall: &Hall<MapCargo>, pass: &mut Pass<MapCargo>, cell: u64, key: u64) -> Option<u64>
     requires pass { IsPassOf hall.now pass.old }
     requires suits { Suits hall.now }

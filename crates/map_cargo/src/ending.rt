@@ -15,9 +15,10 @@ ghost use Rattle.map_cargo.specs.Steps.{Ended};
 use crate::size::MapCargo;
 use hall::{Closed, Hall, Pass};
 
-/// Closes the hall with a pass that is away from every lock and at rest. The log row of each write among its replies holds
-/// the write's words. Where the pass covers all numbers, that is each write that was drawn, and its replies are one legal
-/// history of plain maps that start empty. Then whoever was refused met somebody, who left a footprint at the lock.
+/// Closes the hall with a pass that is away from every lock and at rest. The log row of each write among its replies
+/// holds the write's words. Where the pass covers all numbers, that is each write that was drawn, and its replies are
+/// one legal history of plain maps that start empty. Then whoever was refused met somebody, who left a footprint at the
+/// lock.
 pub fn close(hall: Hall<MapCargo>, pass: Pass<MapCargo>) -> Closed<MapCargo>
     requires pass { IsPassOf hall pass }
     requires away { (lock : ℕ) → standing (view pass) lock ≡ Away }

@@ -195,11 +195,12 @@ fn log_row(hall: &Hall<MapCargo>, pass: &mut Pass<MapCargo>, entry: &Entry, numb
 }
 
 /// Draws the next number for a write, by one fetch-add, at which the quota falls by 1, and stores its log row. The pass
-/// holds each cell that the query names exclusively, and the entry says what the plain maps of this moment say to the query.
+/// holds each cell that the query names exclusively, and the entry says what the plain maps of this moment say to the
+/// query.
 ///
-/// Afterwards the pass's plain maps are those that the write leaves, so that a cell is settled once its words mean its new
-/// map; whether the words change before or after the draw is free. `QuotaSpent` comes exactly at the quota 0; then nothing
-/// is changed.
+/// Afterwards the pass's plain maps are those that the write leaves, so that a cell is settled once its words mean its
+/// new map; whether the words change before or after the draw is free. `QuotaSpent` comes exactly at the quota 0; then
+/// nothing is changed.
 #[tactic(auto, using(crate::proofs::Drawing::drew_whole, crate::specs::StepLaws::stays_none, crate::specs::StepLaws::stays_then))]
 pub fn draw(
     hall: &Hall<MapCargo>,
@@ -239,7 +240,8 @@ fn place_by<K: CallLogWord>(hall: &Hall<MapCargo>, pass: &mut Pass<MapCargo>, en
 }
 
 /// Places a read, by one load of the number word, which it answers: so many writes were drawn before it. The pass holds
-/// each cell that the reply speaks of, in any mode, and the entry says what the plain maps of this moment say to the query.
+/// each cell that the reply speaks of, in any mode, and the entry says what the plain maps of this moment say to the
+/// query.
 pub fn place_read(hall: &Hall<MapCargo>, pass: &mut Pass<MapCargo>, entry: &Entry) -> u64
     requires pass { IsPassOf hall.now pass.old }
     requires suits { Suits hall.now }

@@ -55,8 +55,8 @@ fn refuse_by<K: CallRefusal>(
 
 /// Adds a reply that has no place to the pass's own, under its number and this index, by one load of the state word of
 /// the query's cell: `Busy` to a `TryGet` or a `TryPut`, or `Late` to a `GetBy` or a `PutBy` whose deadline isn't after
-/// `now`. The pass is away from the cell, and earlier steps of its own read words there for which the lock refuses:
-/// for `Busy` one that conflicts, for `Late` one that conflicts or two that differ.
+/// `now`. The pass is away from the cell, and earlier steps of its own read words there for which the lock refuses: for
+/// `Busy` one that conflicts, for `Late` one that conflicts or two that differ.
 ///
 /// Nothing else that the pass knows changes. In a hall with one seat there are no such reads.
 pub fn note_refused(

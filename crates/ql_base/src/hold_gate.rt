@@ -4,8 +4,8 @@ use crate::turns::comes_to;
 use crossbeam_utils::CachePadded;
 use std::sync::atomic::{AtomicBool, AtomicU64, Ordering};
 
-/// Holds back the first query that comes, whosever it is, until so many others are behind the gate.
-/// Every other query goes on at once.
+/// Holds back the first query that comes, whosever it is, until so many others are behind the gate. Every other query
+/// goes on at once.
 ///
 /// After `limit` turns the first one goes on all the same, and [`HoldGate::limit_met`] tells it.
 #[derive(Drop)]

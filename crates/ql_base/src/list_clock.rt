@@ -35,8 +35,8 @@ impl Place {
     }
 }
 
-/// A clock that gives the answers of a list in order, the last one again and again. It tells them
-/// until it has been called 2^64 - 1 times.
+/// A clock that gives the answers of a list in order, the last one again and again. It tells them until it has been
+/// called 2^64 - 1 times.
 #[derive(Drop)]
 pub struct ListClock {
     answers: Vec<u64>,
@@ -80,8 +80,7 @@ impl Clock for ListClock {
     }
 }
 
-/// The clock that [`ListClocks`] gives a caller. It is a [`ListClock`] over a list that is
-/// borrowed.
+/// The clock that [`ListClocks`] gives a caller. It is a [`ListClock`] over a list that is borrowed.
 #[derive(Drop)]
 pub struct SliceClock<'a> {
     answers: &'a [u64],

@@ -47,8 +47,8 @@ impl Calls {
     }
 }
 
-/// A source of these bytes, which it tells. Its calls are numbered from 0. A call whose number is
-/// listed fails, and no other one. A read gives as much as fits.
+/// A source of these bytes, which it tells. Its calls are numbered from 0. A call whose number is listed fails, and no
+/// other one. A read gives as much as fits.
 #[derive(Drop)]
 pub struct MemSource {
     bytes: Vec<u8>,
@@ -118,9 +118,8 @@ impl Source for MemSource {
     }
 }
 
-/// A sink with room for so many bytes, which tells what was written. Its calls are numbered from 0.
-/// A call fails whose number is listed, and so does one that finds no room, and no other one. A
-/// write takes as much as fits.
+/// A sink with room for so many bytes, which tells what was written. Its calls are numbered from 0. A call fails whose
+/// number is listed, and so does one that finds no room, and no other one. A write takes as much as fits.
 #[derive(Drop)]
 pub struct MemSink {
     bytes: Vec<u8>,

@@ -18,13 +18,12 @@ pub trait Source {
     /// How often a read has failed. The count never falls, and stands still at 2^64 - 1.
     ghost faults: { Self → ℕ };
 
-    /// Reads into the front of the buffer, and says how many bytes. None into a buffer that isn't
-    /// empty is the end of the input.
+    /// Reads into the front of the buffer, and says how many bytes. None into a buffer that isn't empty is the end of
+    /// the input.
     fn read(&mut self, buf: &mut [u8]) -> Result<usize, Failed>
         ensures bound { IfOk result (λ n. n ≤ length buf.new) }
 
-        // The bytes read are the front of what was left, which loses them. A failed read leaves it
-        // as it was.
+        // The bytes read are the front of what was left, which loses them. A failed read leaves it as it was.
         ensures bytes { ReadConsumes (left self.old) (left self.new) result buf.new }
         ensures cause { HasCause (faults self.old) (faults self.new) result };
 }
@@ -32,12 +31,11 @@ pub trait Source {
 /// How many bytes one read is asked for at most.
 const PIECE: usize = 64 * 1024;
 
-/// Reads the source to its end, up to `limit` bytes. Where more come, it has taken exactly one byte
-/// more, and no read follows.
+/// Reads the source to its end, up to `limit` bytes. Where more come, it has taken exactly one byte more, and no read
+/// follows.
 ///
-/// The bytes are read straight into their place, at most 64 KiB at a time, so a read costs no copy.
-/// Room is made before each read, so that a want of memory loses no byte that was taken and follows
-/// at most `limit` bytes.
+/// The bytes are read straight into their place, at most 64 KiB at a time, so a read costs no copy. Room is made before
+/// each read, so that a want of memory loses no byte that was taken and follows at most `limit` bytes.
 pub fn read_to_end<S: Source>(
     alloc: Global,
     source: &mut S,

@@ -50,8 +50,8 @@ fn a_piece_is_written_whole_or_up_to_the_fault(rt: HostRuntime) -> Result<(), Al
     Ok(())
 }
 
-// Lengths round the length of one read and round the limit. The bytes repeat after 251, which is no
-// divisor of 65536, so that a byte in the wrong place shows.
+// Lengths round the length of one read and round the limit. The bytes repeat after 251, which is no divisor of 65536,
+// so that a byte in the wrong place shows.
 #[test]
 fn all_is_read_up_to_the_limit(rt: HostRuntime) -> Result<(), AllocError> {
     let alloc = rt.alloc();

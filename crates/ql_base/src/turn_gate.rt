@@ -6,12 +6,12 @@ use crate::turns::comes_to;
 use crossbeam_utils::CachePadded;
 use std::sync::atomic::{AtomicBool, AtomicU64, Ordering};
 
-/// Lets listed queries go on in the order of the list: each once those that are listed before it
-/// are behind the gate again. What isn't listed goes on at once.
+/// Lets listed queries go on in the order of the list: each once those that are listed before it are behind the gate
+/// again. What isn't listed goes on at once.
 ///
-/// A call is a caller's number with a query's index, and stands in the list once. A call that has
-/// waited for `limit` turns goes on all the same. Then the order is lost, for the later calls too,
-/// and [`TurnGate::limit_met`] tells it: a test that asks for an order asks for that as well.
+/// A call is a caller's number with a query's index, and stands in the list once. A call that has waited for `limit`
+/// turns goes on all the same. Then the order is lost, for the later calls too, and [`TurnGate::limit_met`] tells it: a
+/// test that asks for an order asks for that as well.
 #[derive(Drop)]
 pub struct TurnGate {
     order: Vec<(u64, u64)>,

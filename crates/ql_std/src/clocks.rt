@@ -37,11 +37,10 @@ impl<'a, R: time::Clock + Sync> Clocks for StdClocks<'a, R> {
     }
 }
 
-/// A clock that answers the milliseconds since its [`StdClocks`] was made. Contracts see its latest
-/// answer alone, which is 0 before the first.
+/// A clock that answers the milliseconds since its [`StdClocks`] was made. Contracts see its latest answer alone, which
+/// is 0 before the first.
 ///
-/// Where the system's clock can't be read it answers 2^64 - 1, so that no caller waits for a time
-/// that never comes.
+/// Where the system's clock can't be read it answers 2^64 - 1, so that no caller waits for a time that never comes.
 #[derive(Drop)]
 pub struct StdClock<'a, R> {
     system: &'a R,

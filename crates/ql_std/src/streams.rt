@@ -9,8 +9,8 @@ use std::marker::Model;
 
 /// A source over a reader. Contracts see the count of its faults alone.
 ///
-/// A read that the reader refuses raises that count, but for one that a signal interrupted: it is
-/// tried again within the call.
+/// A read that the reader refuses raises that count, but for one that a signal interrupted: it is tried again within
+/// the call.
 #[derive(Drop)]
 pub struct StdSource<R> {
     reader: R,
@@ -63,8 +63,8 @@ fn read_uninterrupted<R: Read>(reader: &mut R, buf: &mut [u8]) -> io::Result<usi
 
 /// A sink over a writer. Contracts see the count of its faults alone.
 ///
-/// A write or a flush that the writer refuses raises that count, and so does a write that takes
-/// nothing. One that a signal interrupted is tried again within the call.
+/// A write or a flush that the writer refuses raises that count, and so does a write that takes nothing. One that a
+/// signal interrupted is tried again within the call.
 #[derive(Drop)]
 pub struct StdSink<W> {
     writer: W,
@@ -84,8 +84,7 @@ impl<W: Write> StdSink<W> {
         StdSink { writer, faults: 0 }
     }
 
-    /// Hands on what the writer still holds. Call it once all is written: a writer that is dropped
-    /// tells no fault.
+    /// Hands on what the writer still holds. Call it once all is written: a writer that is dropped tells no fault.
     pub fn flush(&mut self) -> Result<(), Failed>
         ensures { HasCause self.old self.new result }
     {

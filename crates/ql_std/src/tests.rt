@@ -5,8 +5,8 @@ use std::alloc::{AllocError, Global};
 use std::io::{BufWriter, ErrorKind, Read, Write};
 use std::{io, time};
 
-// A reader and writer that moves at most three bytes a call. Every other call is interrupted, and
-// all from a certain one on are refused.
+// A reader and writer that moves at most three bytes a call. Every other call is interrupted, and all from a certain
+// one on are refused.
 #[derive(Drop)]
 struct Faltering {
     bytes: Vec<u8>,

@@ -26,23 +26,23 @@ use std::sync::Wait;
 /// Asks a query by two passes that hold no lock, the one of the hall and the one of the ledger's lock, as query number
 /// `index` of their caller, and answers its one reply.
 ///
-/// The maps' queries take their cells by waiting, in the mode that they need: `get`, `len` and `both` for reading; `put`,
-/// `del`, `add`, `putlen` and `move` for writing; `cas` in upgrade mode, beside readers, from which it goes on to write
-/// only where the key has the expected value. `putlen` lets readers in, by one step, before it gives its cell back. Two
-/// cells are taken one after the other: the one of the lower number is held before the other is tried for. Two that are
-/// the same one aren't taken.
+/// The maps' queries take their cells by waiting, in the mode that they need: `get`, `len` and `both` for reading;
+/// `put`, `del`, `add`, `putlen` and `move` for writing; `cas` in upgrade mode, beside readers, from which it goes on
+/// to write only where the key has the expected value. `putlen` lets readers in, by one step, before it gives its cell
+/// back. Two cells are taken one after the other: the one of the lower number is held before the other is tried for.
+/// Two that are the same one aren't taken.
 ///
 /// `tryget` and `tryput` try, again where another pass came between, and are `Busy` at the first word that conflicts:
-/// where they were granted, no try of theirs had found one. `getby` and `putby` wait until the clock told the deadline or
-/// later, and are then `Late`. They ask the clock once after each refused try, and each of its answers was below the
+/// where they were granted, no try of theirs had found one. `getby` and `putby` wait until the clock told the deadline
+/// or later, and are then `Late`. They ask the clock once after each refused try, and each of its answers was below the
 /// deadline but the last one of `Late`; no other query asks it. `Busy` and `Late` come only with words of the cell that
-/// this call read and for which its lock refuses. A refused query never held its cell: each step of its call was for that
-/// cell's lock, made with no mode held there.
+/// this call read and for which its lock refuses. A refused query never held its cell: each step of its call was for
+/// that cell's lock, made with no mode held there.
 ///
-/// A placed reply is told while its cells are held, and the pass has one write less to draw where it is one. A refused one
-/// is told without a place. `give`, `take` and `audit` are jobs of the ledger and leave the hall's pass as it was: the
-/// answer is the last of the other pass's own list, which has one job less to run. `give` and `take` may be run by whoever
-/// owns the ledger's lock, and `audit` by this pass alone.
+/// A placed reply is told while its cells are held, and the pass has one write less to draw where it is one. A refused
+/// one is told without a place. `give`, `take` and `audit` are jobs of the ledger and leave the hall's pass as it was:
+/// the answer is the last of the other pass's own list, which has one job less to run. `give` and `take` may be run by
+/// whoever owns the ledger's lock, and `audit` by this pass alone.
 ///
 /// A query of a cell looks at up to all rows of the cell. Its contract holds if it returns. It takes no memory.
 pub fn ask<R: Wait, T: Clock>(

@@ -19,8 +19,8 @@ use std::sync::Wait;
 use std::thread;
 use sync_cell::{ReadPtr, WritePtr, rlock_until, try_rlock, try_wlock, wlock_until};
 
-/// Tries to hold the cell for reading, again after each try that another pass came between. `None` comes where the lock's
-/// word conflicted, at the first such word.
+/// Tries to hold the cell for reading, again after each try that another pass came between. `None` comes where the
+/// lock's word conflicted, at the first such word.
 pub(crate) fn try_to_read<R: Wait>(
     rt: &R,
     hall: &Hall<MapCargo>,
@@ -48,8 +48,8 @@ pub(crate) fn try_to_read<R: Wait>(
     unreachable!()
 }
 
-/// Tries to hold the cell for writing, again after each try that another pass came between. `None` comes where the lock's
-/// word conflicted, or counted readers, at the first such word.
+/// Tries to hold the cell for writing, again after each try that another pass came between. `None` comes where the
+/// lock's word conflicted, or counted readers, at the first such word.
 pub(crate) fn try_to_write<R: Wait>(
     rt: &R,
     hall: &Hall<MapCargo>,
@@ -75,8 +75,8 @@ pub(crate) fn try_to_write<R: Wait>(
     unreachable!()
 }
 
-/// Waits until the cell is held for reading, or until a try was refused and the clock then told the deadline or later: so
-/// much it told.
+/// Waits until the cell is held for reading, or until a try was refused and the clock then told the deadline or later:
+/// so much it told.
 pub(crate) fn read_until<R: Wait, T: Clock>(
     rt: &R,
     hall: &Hall<MapCargo>,
@@ -103,8 +103,8 @@ pub(crate) fn read_until<R: Wait, T: Clock>(
     }
 }
 
-/// Waits until the cell is held for writing, or until a try was refused and the clock then told the deadline or later: so
-/// much it told.
+/// Waits until the cell is held for writing, or until a try was refused and the clock then told the deadline or later:
+/// so much it told.
 pub(crate) fn write_until<R: Wait, T: Clock>(
     rt: &R,
     hall: &Hall<MapCargo>,

@@ -16,8 +16,8 @@ use hall::{Hall, Pass};
 use map_cargo::{MapCargo, del, get, len, put};
 use query_rules::{Query, Said};
 
-/// Changes the cell of a query that may write it, which the pass holds for writing, and says what the plain maps say. Where
-/// the query compares, the cell has what it expects.
+/// Changes the cell of a query that may write it, which the pass holds for writing, and says what the plain maps say.
+/// Where the query compares, the cell has what it expects.
 pub(crate) fn change(hall: &Hall<MapCargo>, pass: &mut Pass<MapCargo>, query: &Query) -> Said
     requires pass { IsPassOf hall.now pass.old }
     requires suits { Suits hall.now }

@@ -65,8 +65,8 @@ pub(crate) fn hold_for_upgrade<R: Wait>(
     ulock(rt, hall, pass, cell)
 }
 
-/// Waits until the readers of a cell have left that is held in upgrade mode, and holds it for writing. What the pass knows
-/// stays true: it holds the cell all the while.
+/// Waits until the readers of a cell have left that is held in upgrade mode, and holds it for writing. What the pass
+/// knows stays true: it holds the cell all the while.
 pub(crate) fn go_on_to_write<R: Wait>(
     rt: &R,
     hall: &Hall<MapCargo>,
@@ -155,8 +155,8 @@ pub(crate) fn leave_writing(hall: &Hall<MapCargo>, pass: &mut Pass<MapCargo>, pt
     unlock_write(hall, pass, ptr);
 }
 
-/// Gives a cell back that was held for writing by way of reading: one step lets readers in, and one more gives the cell back.
-/// Its words have to mean its map again.
+/// Gives a cell back that was held for writing by way of reading: one step lets readers in, and one more gives the cell
+/// back. Its words have to mean its map again.
 pub(crate) fn leave_lowered(hall: &Hall<MapCargo>, pass: &mut Pass<MapCargo>, ptr: WritePtr)
     requires pass { IsPassOf hall.now pass.old }
     requires cell { ptr.guard.lock < (shape_of hall.now).locks }

@@ -25,8 +25,8 @@ use query_rules::{Query, Reply, Said};
 use std::sync::Wait;
 use sync_cell::ReadPtr;
 
-/// Answers a query that reads one cell. It takes the cell for reading, by waiting, by tries or until the query's deadline,
-/// and it looks at up to all rows of the cell.
+/// Answers a query that reads one cell. It takes the cell for reading, by waiting, by tries or until the query's
+/// deadline, and it looks at up to all rows of the cell.
 pub(crate) fn ask_reading<R: Wait, T: Clock>(
     rt: &R,
     hall: &Hall<MapCargo>,

@@ -115,8 +115,8 @@ fn tell_write(
     }
 }
 
-/// Tells what the plain maps say to a query whose cells the pass holds for writing: a write is drawn, and a read is placed.
-/// Afterwards the pass's plain maps are those that the reply leaves.
+/// Tells what the plain maps say to a query whose cells the pass holds for writing: a write is drawn, and a read is
+/// placed. Afterwards the pass's plain maps are those that the reply leaves.
 #[tactic(auto, using(crate::proofs::Replies::may_place, crate::proofs::Replies::may_draw, crate::proofs::Replies::may_hold, map_cargo::specs::StepLaws::stays_alike))]
 pub(crate) fn tell(
     hall: &Hall<MapCargo>,

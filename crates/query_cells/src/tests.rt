@@ -1,5 +1,5 @@
-//! What no clause says: that queries that nothing is in the way of are granted, and that a held cell refuses. Places are
-//! worked out by hand: write number w stands at 2w + 1, and a read after w writes at 2w.
+//! What no clause says: that queries that nothing is in the way of are granted, and that a held cell refuses. Places
+//! are worked out by hand: write number w stands at 2w + 1, and a read after w writes at 2w.
 ghost use Rattle.std.specs.Prelude.{◌≡◌, ◌<◌, length, IsFalse, IfOk};
 ghost use Rattle.dist_mutex.specs.Passes.{dist_view, IsAtRest, IsDistPassOf};
 ghost use Rattle.hall.specs.Passes.{view, IsPassOf, cargo_of, shape_of};

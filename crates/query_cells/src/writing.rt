@@ -26,8 +26,8 @@ use query_rules::{Query, Reply};
 use std::sync::Wait;
 use sync_cell::WritePtr;
 
-/// Answers a query that writes one cell, or says why it can't. It takes the cell for writing, by waiting, by tries or until
-/// the query's deadline, and it looks at up to all rows of the cell.
+/// Answers a query that writes one cell, or says why it can't. It takes the cell for writing, by waiting, by tries or
+/// until the query's deadline, and it looks at up to all rows of the cell.
 pub(crate) fn ask_writing<R: Wait, T: Clock>(
     rt: &R,
     hall: &Hall<MapCargo>,
@@ -97,8 +97,8 @@ fn hold_to_write<R: Wait, T: Clock>(
     }
 }
 
-/// Answers a query that gives a key a new value where it has the expected one. It looks in upgrade mode, beside readers, and
-/// goes on to write only where it found what it expects; nobody else can write in between.
+/// Answers a query that gives a key a new value where it has the expected one. It looks in upgrade mode, beside
+/// readers, and goes on to write only where it found what it expects; nobody else can write in between.
 pub(crate) fn ask_comparing<R: Wait>(
     rt: &R,
     hall: &Hall<MapCargo>,

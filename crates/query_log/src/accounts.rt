@@ -1,4 +1,4 @@
-// The accounts of a ledger.
+//! The accounts of a ledger.
 ghost use Rattle.std.specs.Prelude.{◌≡◌, ◌<◌, ◌≤◌, ◌==◌, ◌^◌, [], Some, None, IfOk, length, vec_capacity, slice_index_or, nat_le};
 ghost use Rattle.query_rules.specs.declared.query.LedgerAct.TheVariants as act;
 ghost use Rattle.query_rules.specs.Ledger.{with_balance, sum_of, result_of};
@@ -11,8 +11,8 @@ use std::alloc::Global;
 use std::collections::HashMap;
 use std::marker::Model;
 
-/// Accounts in the order in which they were opened. Their places by key and their sum are kept
-/// beside them, so that no job goes through them all.
+/// Accounts in the order in which they were opened. Their places by key and their sum are kept beside them, so that no
+/// job goes through them all.
 #[derive(Drop)]
 pub struct AccountBook {
     rows: u64,

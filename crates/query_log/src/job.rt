@@ -1,4 +1,4 @@
-// Jobs of a ledger, and what is kept of them.
+//! Jobs of a ledger, and what is kept of them.
 use query_rules::{LedgerAct, LedgerTold, LedgerTrouble};
 
 /// A job, and whose it is: query number `index` of this caller.

@@ -1,4 +1,4 @@
-// The ledger as a value that a lock's owner keeps, and its jobs as jobs of that lock.
+//! The ledger as a value that a lock's owner keeps, and its jobs as jobs of that lock.
 use crate::{Ledger, LedgerFault, LedgerJob, LedgerOut};
 use combine_job::job::{Job, Room};
 

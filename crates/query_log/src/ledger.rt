@@ -1,4 +1,4 @@
-// The plain ledger.
+//! The plain ledger.
 ghost use Rattle.std.specs.Prelude.{◌≡◌, ◌≤◌, [], IfOk};
 ghost use Rattle.query_rules.specs.Ledger.{result_of, accounts_of};
 ghost use Rattle.query_log.specs.Ledgers.{accounts_in, with_job};
@@ -31,8 +31,7 @@ impl Model for Ledger {
 }
 
 impl Ledger {
-    /// No accounts, with room for so many accounts and jobs. It takes here all the memory that they
-    /// need.
+    /// No accounts, with room for so many accounts and jobs. It takes here all the memory that they need.
     pub fn make(alloc: Global, rows: u64, jobs: u64) -> Result<Self, NoMemory>
         ensures { IfOk result (λ ledger. ledger ≡ record { rows = rows; room = jobs; entries = [] }) }
     {
@@ -57,8 +56,7 @@ impl Ledger {
         self.entries.as_slice()
     }
 
-    /// Runs a job, which becomes the last entry of the history. It takes no memory, and costs a
-    /// look-up or two.
+    /// Runs a job, which becomes the last entry of the history. It takes no memory, and costs a look-up or two.
     pub fn run_plain(&mut self, job: LedgerJob) -> Result<LedgerOut, LedgerFault>
         requires room { 1 ≤ self.old.room }
         ensures result { result ≡ result_of self.old.rows (accounts_in self.old) job.act }

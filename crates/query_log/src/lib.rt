@@ -1,11 +1,9 @@
-//! One query: the plain maps and the plain ledger, slow and simple programs that compute what a
-//! script's queries mean.
+//! One query: the plain maps and the plain ledger, slow and simple programs that compute what a script's queries mean.
 //!
-//! The maps are std's ordered maps. The ledger keeps its accounts, their places by key, and their
-//! sum. Its jobs are jobs of `combine_job`, so that the owner of a lock can run them on a ledger. The
-//! crate stands on `query_rules`, whose definitions of a query's plain meaning are the
-//! contracts of [`PlainMaps::ask`] and [`Ledger::run_plain`]. Every later body of maps or ledger is
-//! compared with them.
+//! The maps are std's ordered maps. The ledger keeps its accounts, their places by key, and their sum. Its jobs are
+//! jobs of `combine_job`, so that the owner of a lock can run them on a ledger. The crate stands on `query_rules`,
+//! whose definitions of a query's plain meaning are the contracts of [`PlainMaps::ask`] and [`Ledger::run_plain`].
+//! Every later body of maps or ledger is compared with them.
 #![tactic(auto)]
 
 mod accounts;

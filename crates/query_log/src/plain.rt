@@ -1,4 +1,4 @@
-// The plain maps.
+//! The plain maps.
 ghost use Rattle.std.specs.Prelude.{◌≡◌, ◌<◌, ◌∷◌, [], Some, IfOk, OnOk, OnErr, IsSome, length, IsFalse, ◌^◌};
 ghost use Rattle.query_rules.specs.Grammar.{TakesBelow};
 ghost use Rattle.query_rules.specs.History.{asks_ledger};

@@ -1,5 +1,5 @@
-//! What no clause says: that asking succeeds with ample memory. Every reply of every query comes up
-//! once, worked out by hand.
+//! What no clause says: that asking succeeds with ample memory. Every reply of every query comes up once, worked out by
+//! hand.
 ghost use Rattle.std.specs.Prelude.{◌≡◌, length, IsFalse, OnOk};
 ghost use Rattle.query_rules.specs.Grammar.{TakesBelow};
 ghost use Rattle.query_rules.specs.History.{asks_ledger};

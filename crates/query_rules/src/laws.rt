@@ -1,4 +1,4 @@
-// A law of histories.
+//! A law of histories.
 ghost use Rattle.query_rules.specs.Laws.{AloneIsServed};
 
 /// A law: a history of one caller, or of none, has no `busy` and no `late`.

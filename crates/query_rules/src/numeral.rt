@@ -1,4 +1,4 @@
-// Numbers as words.
+//! Numbers as words.
 ghost use Rattle.query_rules.specs.Words.{number_of};
 ghost use Rattle.std.specs.Prelude.{◌≡◌, ◌&&◌, ◌^◌, Some, None, nat_lt, if◌then◌else◌};
 ghost use Rattle.std.specs.Str.{all_ascii_digits};

@@ -1,4 +1,4 @@
-// Queries and replies.
+//! Queries and replies.
 ghost use Rattle.std.specs.Prelude.{◌≡◌};
 
 /// A question of a caller. Cells, keys, values, deadlines and amounts are numbers of 64 bits.
@@ -258,8 +258,8 @@ pub enum Cause {
     TooManyQueries,
 }
 
-/// Where a line of the log takes its reply from, and by what the lines are ordered: the key, which
-/// is the reply's place or position, then the caller, then the index.
+/// Where a line of the log takes its reply from, and by what the lines are ordered: the key, which is the reply's place
+/// or position, then the caller, then the index.
 #[derive(Clone, Copy, Debug, PartialEq, Eq, PartialOrd, Ord)]
 pub struct Spot {
     pub key: u64,
@@ -286,8 +286,8 @@ pub enum Total {
     Jobs,
 }
 
-/// What a run comes to: how many replies there are, and how many of each kind; and the sums of all
-/// values of its maps and of all accounts of its ledger at the end.
+/// What a run comes to: how many replies there are, and how many of each kind; and the sums of all values of its maps
+/// and of all accounts of its ledger at the end.
 #[derive(Clone, Copy, Debug, PartialEq, Eq)]
 pub struct Totals {
     pub queries: u64,

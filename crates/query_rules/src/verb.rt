@@ -1,4 +1,4 @@
-// The names of the queries.
+//! The names of the queries.
 ghost use Rattle.std.specs.Prelude.{◌≡◌, ◌≤◌, length};
 ghost use Rattle.query_rules.specs.Verbs.{verb_named, verb_word, arity, cells_in, query_of};
 

@@ -1,4 +1,4 @@
-// How many digits a number has.
+//! How many digits a number has.
 ghost use Rattle.std.specs.Prelude.{◌≡◌, ◌<◌, length, decimal};
 
 // Of a number below 10,000.

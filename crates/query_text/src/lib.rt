@@ -1,9 +1,9 @@
 //! Scripts and logs: between bytes and what they say.
 //!
-//! [`parse_script`] reads the bytes of a script, and tells of a text that is none its first bad
-//! line and that line's first cause. [`write_log`] writes what was replied to a script, a line at a
-//! time, into any sink, and [`write_soak`] what a soak came to. The definitions that both are held to stand in `query_rules`; bytes, faults
-//! and pieces are those of `ql_base`.
+//! [`parse_script`] reads the bytes of a script, and tells of a text that is none its first bad line and that line's
+//! first cause. [`write_log`] writes what was replied to a script, a line at a time, into any sink, and [`write_soak`]
+//! what a soak came to. The definitions that both are held to stand in `query_rules`; bytes, faults and pieces are
+//! those of `ql_base`.
 //!
 //! Reading takes memory for the lists of queries alone, and writing takes none.
 #![tactic(auto)]

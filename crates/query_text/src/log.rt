@@ -1,4 +1,4 @@
-// The writing of a log.
+//! The writing of a log.
 ghost use Rattle.std.specs.Prelude.{◌≡◌, ◌≤◌, ◌<◌, ◌^◌, ◌++◌, Some, [], length, get_or, take, drop, sum_by};
 ghost use Rattle.std.specs.List.{AllByRecursion, AllZip};
 ghost use Rattle.ql_base.specs.Bytes.{Writes};
@@ -12,11 +12,11 @@ use crate::{Callers, Counts, Outcome, Script};
 use ql_base::{Failed, Sink};
 use query_rules::{Query, Reply, Spot, Total};
 
-/// Writes the log of a script with so many rows in each cell: what was replied, and the totals. A
-/// line is handed to the sink as one piece, and the rest of it again until it is taken.
+/// Writes the log of a script with so many rows in each cell: what was replied, and the totals. A line is handed to the
+/// sink as one piece, and the rest of it again until it is taken.
 ///
-/// `order` has the spots of the map lines and then those of the job lines, each part by key, caller
-/// and index. The call takes no memory, and goes over the replies a fixed number of times.
+/// `order` has the spots of the map lines and then those of the job lines, each part by key, caller and index. The call
+/// takes no memory, and goes over the replies a fixed number of times.
 pub fn write_log<K: Sink>(
     sink: &mut K,
     script: &Script,

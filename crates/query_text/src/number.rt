@@ -1,4 +1,4 @@
-// Numbers in a script.
+//! Numbers in a script.
 ghost use Rattle.std.specs.Prelude.{◌≡◌, ◌≤◌, Some, None, map, IfSome, option_map, length};
 ghost use Rattle.arrayvec.specs.ArrayVec.{array_vec_len};
 ghost use Rattle.query_rules.specs.Grammar.{numbers_in};

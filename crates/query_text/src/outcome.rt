@@ -1,4 +1,4 @@
-// What was replied to the queries of a script.
+//! What was replied to the queries of a script.
 ghost use Rattle.std.specs.Prelude.{◌≡◌, ◌+◌, ◌-◌, ◌<◌, ◌≤◌, ◌^◌, [], length, get_or, map, sum_by, count_by, if◌then◌else◌};
 ghost use Rattle.query_rules.specs.Log.{is_counted, total_of};
 ghost use Rattle.query_rules.specs.declared.query.Total.{Total};

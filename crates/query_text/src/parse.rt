@@ -1,4 +1,4 @@
-// The reading of a script.
+//! The reading of a script.
 ghost use Rattle.std.specs.Prelude.{◌≡◌};
 ghost use Rattle.query_rules.specs.Grammar.{said_by, IsScript};
 ghost use Rattle.query_rules.specs.Grammar as grammar;
@@ -34,8 +34,8 @@ impl Error for ParseFault {}
 
 /// The script that a text says, or its first bad line with that line's first cause.
 ///
-/// One pass over the bytes: each byte is looked at a fixed number of times, and no line is copied.
-/// It takes memory for the lists of queries alone.
+/// One pass over the bytes: each byte is looked at a fixed number of times, and no line is copied. It takes memory for
+/// the lists of queries alone.
 pub fn parse_script(alloc: Global, bytes: &[u8]) -> Result<Script, ParseFault>
     ensures { Parses (λ s. s) result (said_by bytes.now) }
 {

@@ -1,4 +1,4 @@
-// The queries of one caller.
+//! The queries of one caller.
 ghost use Rattle.std.specs.Prelude.{◌≡◌, ◌∷◌, ◌++◌, [], OnOk, OnErr};
 ghost use Rattle.query_rules.specs.Maps.{writes_of};
 ghost use Rattle.query_rules.specs.Ledger.{jobs_of};
@@ -9,7 +9,7 @@ use std::alloc::Global;
 use std::marker::Model;
 
 /// What one caller asks. It counts, while it is filled, what a run has to make room for.
-#[derive(Drop)]
+#[derive(Debug, Drop)]
 pub struct QueryList {
     queries: Vec<Query>,
     // how many of them may change a map, and how many ask the ledger

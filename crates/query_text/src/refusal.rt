@@ -1,4 +1,4 @@
-// What is written of a refused input.
+//! What is written of a refused input.
 ghost use Rattle.std.specs.Prelude.{◌≡◌, ◌≤◌, ◌++◌, ◌∷◌, [], length, decimal};
 ghost use Rattle.ql_base.specs.Bytes.{Writes};
 ghost use Rattle.ql_base.specs.Causes.{HasCause};

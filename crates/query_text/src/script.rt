@@ -1,4 +1,4 @@
-// Scripts.
+//! Scripts.
 ghost use Rattle.std.specs.Prelude.{◌≡◌, ◌∷◌, ◌++◌, ◌<◌, ◌^◌, [], length, OnOk, OnErr, get_or, sum_by, nat_le};
 ghost use Rattle.query_rules.specs.Grammar.{IsScript, with_query};
 ghost use Rattle.query_rules.specs.Maps.{writes_of};
@@ -12,7 +12,7 @@ use std::alloc::Global;
 use std::marker::Model;
 
 /// The queries of some callers, a list for each.
-#[derive(Drop)]
+#[derive(Debug, Drop)]
 pub struct Callers {
     alloc: Global,
     lists: Vec<QueryList>,
@@ -107,10 +107,9 @@ impl Callers {
     }
 }
 
-/// A script: a number of cells, and what each caller asks. It is always one that some text says:
-/// 1 to `MOST_CELLS` cells, at most `MOST_CALLERS` callers and `MOST_QUERIES` queries, and no query
-/// names a cell that isn't there.
-#[derive(Drop)]
+/// A script: a number of cells, and what each caller asks. It is always one that some text says: 1 to `MOST_CELLS`
+/// cells, at most `MOST_CALLERS` callers and `MOST_QUERIES` queries, and no query names a cell that isn't there.
+#[derive(Debug, Drop)]
 pub struct Script {
     cells: u64,
     callers: Callers,

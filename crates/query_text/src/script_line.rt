@@ -1,4 +1,4 @@
-// The lines of a script.
+//! The lines of a script.
 ghost use Rattle.std.specs.Prelude.{◌≡◌, ◌≤◌, ◌<◌, [], length, map, nat_le};
 ghost use Rattle.std.specs.List.{list_any};
 ghost use Rattle.query_rules.specs.Grammar as grammar;

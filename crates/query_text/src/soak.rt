@@ -1,4 +1,4 @@
-// What is written of a soak.
+//! What is written of a soak.
 ghost use Rattle.std.specs.Prelude.{◌++◌, codes};
 ghost use Rattle.ql_base.specs.Bytes.{Writes};
 ghost use Rattle.ql_base.specs.Causes.{HasCause};
@@ -10,9 +10,8 @@ use crate::log_line::{write_number, write_sum};
 use ql_base::{Failed, Sink};
 use query_rules::{Total, Totals};
 
-/// Writes what a soak of `count` queries came to: its counts, the sum of its maps and that of its
-/// ledger. A line is handed to the sink as one piece, and the rest of it again until it is taken.
-/// The call takes no memory.
+/// Writes what a soak of `count` queries came to: its counts, the sum of its maps and that of its ledger. A line is
+/// handed to the sink as one piece, and the rest of it again until it is taken. The call takes no memory.
 pub fn write_soak<K: Sink>(sink: &mut K, count: u64, totals: &Totals) -> Result<(), Failed>
     ensures bytes { Writes (K.written sink.old) (K.written sink.new) result (soak_text count totals.now) }
     ensures cause { HasCause (K.faults sink.old) (K.faults sink.new) result }

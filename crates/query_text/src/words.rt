@@ -1,4 +1,4 @@
-// Lines, and the words of a line.
+//! Lines, and the words of a line.
 ghost use Rattle.std.specs.Prelude.{◌≡◌, ◌∷◌, ◌<◌, ◌≤◌, ℕ, length, map, take, slice_index, true, false, Some, None, IfSome, IfNone, IfOk, IfErr, OnOk};
 ghost use Rattle.std.specs.Option.{option_copied};
 ghost use Rattle.query_rules.specs.Words.{lines_of, words_of};
@@ -76,8 +76,8 @@ fn take_word(text: &[u8]) -> Option<(&[u8], Option<&[u8]>)>
     }
 }
 
-/// The first words of a line, at most six, or what is wrong with its bytes and spaces. A line of
-/// at most six words is gone over once.
+/// The first words of a line, at most six, or what is wrong with its bytes and spaces. A line of at most six words is
+/// gone over once.
 pub fn spelled_words(line: &[u8]) -> Result<ArrayVec<&[u8], ENOUGH_WORDS>, Cause>
     ensures words { IfOk result (λ words. map (λ w. w.now) words.items ≡ take 6 (words_of line.now)) }
     ensures spelled { OnOk result (spelling.fault_in line.now ≡ None) }

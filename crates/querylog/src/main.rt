@@ -1,7 +1,7 @@
 //! `querylog`: runs a script of queries from standard input, and writes its log to standard output.
 //!
-//! All that it promises is the contract of [`server_run::serve_main`]. Here the real streams and
-//! the real clock are put in its place, and a buffer of 64 KiB before standard output.
+//! All that it promises is the contract of [`server_run::serve_main`]. Here the real streams and the real clock are put
+//! in its place, and a buffer of 64 KiB before standard output.
 #![tactic(auto)]
 
 use ql_base::OpenGate;

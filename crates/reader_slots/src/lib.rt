@@ -86,8 +86,8 @@ pub fn place<C: Cargo>(hall: &Hall<C>, pass: &mut Pass<C>, lock: u64) -> Placed
     }
 }
 
-/// Looks at the lock's word, by one load, for a pass with an undecided token. `Inside` comes exactly where its may-defer
-/// bit is set.
+/// Looks at the lock's word, by one load, for a pass with an undecided token. `Inside` comes exactly where its
+/// may-defer bit is set.
 pub fn check<C: Cargo>(hall: &Hall<C>, pass: &mut Pass<C>, lock: u64) -> Checked
     requires pass { IsPassOf hall.now pass.old }
     requires lock { lock < (shape_of hall.now).locks }
@@ -106,8 +106,8 @@ pub fn check<C: Cargo>(hall: &Hall<C>, pass: &mut Pass<C>, lock: u64) -> Checked
     }
 }
 
-/// Takes back an undecided token. `Cleared` comes exactly where its slot still named the lock; else the count is lowered
-/// by one. At most 2 steps.
+/// Takes back an undecided token. `Cleared` comes exactly where its slot still named the lock; else the count is
+/// lowered by one. At most 2 steps.
 pub fn withdraw<C: Cargo>(hall: &Hall<C>, pass: &mut Pass<C>, lock: u64, slot: u64) -> Withdrawn
     requires pass { IsPassOf hall.now pass.old }
     requires lock { lock < (shape_of hall.now).locks }
@@ -126,8 +126,8 @@ pub fn withdraw<C: Cargo>(hall: &Hall<C>, pass: &mut Pass<C>, lock: u64, slot: u
     Withdrawn::GaveBack
 }
 
-/// A reader that holds shared by a token in this slot leaves. `Cleared` comes exactly where its slot still named the lock;
-/// else its unit is in the count, which is lowered by one. At most 2 steps.
+/// A reader that holds shared by a token in this slot leaves. `Cleared` comes exactly where its slot still named the
+/// lock; else its unit is in the count, which is lowered by one. At most 2 steps.
 pub fn leave_deferred<C: Cargo>(
     hall: &Hall<C>,
     pass: &mut Pass<C>,

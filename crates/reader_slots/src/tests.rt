@@ -173,8 +173,8 @@ fn holds<A: Abort>(rt: &A, hall: &Hall<NoCargo>, pass: &mut Pass<NoCargo>)
     }
 }
 
-// A reader keeps its slot while a writer comes, sweeps, finds readers and gives up. It finds its slot cleared, and gives
-// its unit back.
+// A reader keeps its slot while a writer comes, sweeps, finds readers and gives up. It finds its slot cleared, and
+// gives its unit back.
 #[test]
 fn a_reader_gives_back(rt: HostRuntime) {
     let made = Hall::make(rt.alloc(), 1, 32, Policy::WritePriority, 5, 0, NoCargo);
@@ -201,8 +201,8 @@ fn a_reader_gives_back(rt: HostRuntime) {
     word_is(&rt, &hall, &mut three, 3 * ONE + 1);
 }
 
-// A reader that is undecided while a writer comes and sweeps gives back what the sweep made of its token, and the writer
-// takes the lock.
+// A reader that is undecided while a writer comes and sweeps gives back what the sweep made of its token, and the
+// writer takes the lock.
 #[test]
 fn a_newcomer_gives_back(rt: HostRuntime) {
     let made = Hall::make(rt.alloc(), 1, 32, Policy::WritePriority, 4, 0, NoCargo);
@@ -224,8 +224,8 @@ fn a_newcomer_gives_back(rt: HostRuntime) {
     word_is(&rt, &hall, &mut zero, 0);
 }
 
-// Two readers fill both slots, so that a third finds both taken. The two leave by their slots, and the lock's word stays
-// as it was all the while.
+// Two readers fill both slots, so that a third finds both taken. The two leave by their slots, and the lock's word
+// stays as it was all the while.
 #[test]
 fn two_slots(rt: HostRuntime) {
     let made = Hall::make(rt.alloc(), 1, 2, Policy::WritePriority, 4, 0, NoCargo);

@@ -15,8 +15,8 @@ pub fn spelling_is_read()
     ensures { SpellingIsRead }
 {}
 
-/// What is read as a script is its spelling, but for a missing last line feed; and the script meets what every
-/// script meets.
+/// What is read as a script is its spelling, but for a missing last line feed; and the script meets what every script
+/// meets.
 pub fn what_is_read_is_spelled()
     ensures { ReadIsSpelled }
 {}

@@ -1,4 +1,4 @@
-// One caller of a script, who asks its queries.
+//! One caller of a script, who asks its queries.
 ghost use Rattle.std.specs.Prelude.{◌≡◌, ◌<◌, ◌≤◌, ◌∷◌, ◌++◌, [], length, vec_capacity};
 ghost use Rattle.std.specs.List.{AllByRecursion};
 ghost use Rattle.hall.specs.Passes.{view, IsPassOf, cargo_of};
@@ -24,8 +24,8 @@ use query_log::{Ledger, LedgerJob};
 use query_text::{Callers, Query, Reply};
 use std::sync::Wait;
 
-/// What a caller asks with, and what it was told: its pass through the hall, its pass of the
-/// ledger's lock, its clock, and the list of its replies, which is reserved for all of them.
+/// What a caller asks with, and what it was told: its pass through the hall, its pass of the ledger's lock, its clock,
+/// and the list of its replies, which is reserved for all of them.
 #[derive(Drop)]
 pub struct Caller<T> {
     pub pass: Pass<MapCargo>,
@@ -34,9 +34,8 @@ pub struct Caller<T> {
     pub replies: Vec<Reply>,
 }
 
-/// Asks these queries of one caller in their order, with the gate around each, and keeps the
-/// replies. The caller's number is that of both passes. It takes no memory, and holds what it
-/// promises if it returns.
+/// Asks these queries of one caller in their order, with the gate around each, and keeps the replies. The caller's
+/// number is that of both passes. It takes no memory, and holds what it promises if it returns.
 pub fn ask_all<R: Wait, T: Clock, G: Gate>(
     rt: &R,
     hall: &Hall<MapCargo>,

@@ -1,5 +1,4 @@
-//! What no clause says: that callers run side by side, and that the closes of a run without callers
-//! are handed out.
+//! What no clause says: that callers run side by side, and that the closes of a run without callers are handed out.
 use crate::{Ended, serve_main};
 use ql_base::{Gate, HoldGate, ListClocks, MemSink, MemSource, OpenGate, TurnGate};
 use std::alloc::{AllocError, Global};
@@ -9,8 +8,7 @@ use std::thread::Threads;
 // A wait of so many turns ends by itself in no right program.
 const LIMIT: u64 = 100_000_000;
 
-// The status of a run over this script under this gate, what it wrote, and whether the closes were
-// handed out.
+// The status of a run over this script under this gate, what it wrote, and whether the closes were handed out.
 fn run<R: Threads + Wait + Sync + AllocGlobal, G: Gate>(
     rt: &R,
     script: &[u8],

@@ -1,4 +1,4 @@
-// What the two closes of a run leave.
+//! What the two closes of a run leave.
 ghost use Rattle.std.specs.Prelude.{◌≡◌, None};
 
 use combine_job::parcel::Parcel;
@@ -7,9 +7,9 @@ use map_cargo::MapCargo;
 use query_log::{Ledger, LedgerJob};
 use waiter_chain::make::Retired;
 
-/// What the close of the hall and the close of the ledger's lock gave, where a run came to its end.
-/// The program reads nothing of it. It is there for the proof: only a close of a hall and of a lock
-/// makes what it holds, and it says what the passes told.
+/// What the close of the hall and the close of the ledger's lock gave, where a run came to its end. The program reads
+/// nothing of it. It is there for the proof: only a close of a hall and of a lock makes what it holds, and it says what
+/// the passes told.
 #[derive(Drop)]
 pub struct Ended {
     pub hall: Option<Closed<MapCargo>>,

@@ -1,5 +1,5 @@
-//! What no clause says: that the gate is called once ahead of each query and once behind it, with
-//! its caller and its index, in their order.
+//! What no clause says: that the gate is called once ahead of each query and once behind it, with its caller and its
+//! index, in their order.
 use crate::{Ended, serve_main};
 use ql_base::{Gate, ListClocks, MemSink, MemSource};
 use std::alloc::{AllocError, Global};

@@ -1,4 +1,4 @@
-// The callers side by side, each in a thread of its own.
+//! The callers side by side, each in a thread of its own.
 ghost use Rattle.std.specs.Prelude.{◌+◌, ◌<◌, ◌≤◌, length};
 ghost use Rattle.std.specs.Thread.{IsSync};
 ghost use denote.Param.Send.{IsSend};
@@ -16,8 +16,8 @@ use query_text::{Callers, Reply};
 use std::sync::Wait;
 use std::thread::{Threads, join_mut};
 
-/// Lets these callers ask side by side, by halves of halves. The first of them has this number. It
-/// holds what it promises if it returns.
+/// Lets these callers ask side by side, by halves of halves. The first of them has this number. It holds what it
+/// promises if it returns.
 #[cycle(seats)]
 pub fn run_all<R: Threads + Wait + Sync, T: Clock, G: Gate>(
     rt: &R,
@@ -87,8 +87,7 @@ fn run_halves<R: Threads + Wait + Sync, T: Clock, G: Gate>(
     join_mut(rt, &mut one, &mut other);
 }
 
-/// Lets the first caller ask by passes that are lent, beside all others. Where there are no others
-/// it starts no thread.
+/// Lets the first caller ask by passes that are lent, beside all others. Where there are no others it starts no thread.
 pub fn run_both<R: Threads + Wait + Sync, T: Clock, G: Gate>(
     rt: &R,
     hall: &Hall<MapCargo>,

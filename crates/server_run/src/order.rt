@@ -1,4 +1,4 @@
-// The order of a log's lines.
+//! The order of a log's lines.
 ghost use Rattle.std.specs.Prelude.{◌≡◌, ◌+◌, ◌<◌, ◌≤◌, ◌++◌, ◌^◌, [], length, sum_by, get_or, take, drop, vec_capacity, IsPermutation, IsSorted};
 ghost use Rattle.query_rules.specs.Log.{IsOrder, spots_of, spots_from};
 ghost use Rattle.query_rules.specs.Log as log;
@@ -6,9 +6,9 @@ ghost use Rattle.query_rules.specs.Log as log;
 use crate::reserved::push_reserved;
 use query_text::{Outcome, Reply, Section, Spot};
 
-/// The spots of all replies in the order of the log: those of the map lines, then those of the job
-/// lines. They are put into `room`, an empty list that was reserved for all replies, so the call
-/// takes no memory. It takes the time of two sorts.
+/// The spots of all replies in the order of the log: those of the map lines, then those of the job lines. They are put
+/// into `room`, an empty list that was reserved for all replies, so the call takes no memory. It takes the time of two
+/// sorts.
 pub fn order_of(room: Vec<Spot>, outcome: &Outcome) -> Vec<Spot>
     requires empty { room.items ≡ [] }
     requires room { sum_by length outcome.now ≤ vec_capacity room }

@@ -1,4 +1,4 @@
-// Lists that were reserved for all that they will hold.
+//! Lists that were reserved for all that they will hold.
 ghost use Rattle.std.specs.Prelude.{◌≡◌, ◌<◌, ◌≤◌, ◌∷◌, ◌++◌, [], length, vec_capacity};
 
 /// Adds to a list that has room left. It takes no memory.

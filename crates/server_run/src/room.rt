@@ -1,4 +1,4 @@
-// What a run needs, made before its first query.
+//! What a run needs, made before its first query.
 ghost use Rattle.std.specs.Prelude.{◌≡◌, ◌≤◌, ◌<◌, length, sum_by, IfOk};
 ghost use Rattle.command_line.specs.Form.{IsWithinLimits};
 ghost use Rattle.hall.specs.Passes.{view, IsPassOf};
@@ -19,9 +19,8 @@ use query_log::{Ledger, LedgerJob};
 use query_text::Callers;
 use std::alloc::Global;
 
-/// A hall for these callers, as the options ask: so many empty maps behind a lock each, a seat for
-/// each caller, and a log row for each query that may write. Its pass has all seats and all the
-/// quota.
+/// A hall for these callers, as the options ask: so many empty maps behind a lock each, a seat for each caller, and a
+/// log row for each query that may write. Its pass has all seats and all the quota.
 pub fn open_hall(
     alloc: Global,
     cells: u64,
@@ -56,9 +55,8 @@ pub fn open_hall(
     }
 }
 
-/// An empty ledger behind a lock of its own for these callers, as the options ask: it has a node for
-/// each caller, and room for each query that asks it. The lock's pass has all nodes and all the
-/// quota.
+/// An empty ledger behind a lock of its own for these callers, as the options ask: it has a node for each caller, and
+/// room for each query that asks it. The lock's pass has all nodes and all the quota.
 pub fn open_ledger(
     alloc: Global,
     callers: &Callers,

@@ -1,4 +1,4 @@
-// The queries of a script, asked by a thread for each caller.
+//! The queries of a script, asked by a thread for each caller.
 ghost use Rattle.std.specs.Prelude.{◌≡◌, sum_by, IfOk, OnErr};
 ghost use Rattle.std.specs.List.{AllByRecursion};
 ghost use Rattle.hall.specs.Passes.{view, IsPassOf, cargo_of};
@@ -31,22 +31,20 @@ use std::collections::VecDeque;
 use std::sync::Wait;
 use std::thread::Threads;
 
-/// What a run gives: the replies to each caller, and what the closes of the hall and of the ledger's
-/// lock left.
+/// What a run gives: the replies to each caller, and what the closes of the hall and of the ledger's lock left.
 #[derive(Drop)]
 pub struct Ran {
     pub outcome: Outcome,
     pub ended: Ended,
 }
 
-/// Asks the queries of all callers, each in a thread of its own, with the gate around each query.
-/// Caller i asks by passes of number i: they are split off the two that are given, and are taken in
-/// again behind the last query. So the two passes tell exactly the replies of the outcome, each
-/// under its caller and its index.
+/// Asks the queries of all callers, each in a thread of its own, with the gate around each query. Caller i asks by
+/// passes of number i: they are split off the two that are given, and are taken in again behind the last query. So the
+/// two passes tell exactly the replies of the outcome, each under its caller and its index.
 ///
-/// All memory is taken before the first pass is split off. `NoMemory` comes only then, and leaves
-/// both passes as they were. Where the system starts no more threads, a thread runs several callers
-/// one after the other. The call holds what it promises if it returns.
+/// All memory is taken before the first pass is split off. `NoMemory` comes only then, and leaves both passes as they
+/// were. Where the system starts no more threads, a thread runs several callers one after the other. The call holds
+/// what it promises if it returns.
 pub fn run_callers<R: Threads + Wait + Sync, T: Clocks, G: Gate>(
     rt: &R,
     alloc: Global,
@@ -137,10 +135,9 @@ fn run_lists<R: Threads + Wait + Sync, T: Clocks, G: Gate>(
 
 /// Asks the queries of the script's callers, and calls the gate around each.
 ///
-/// All memory is taken before the first query, so `NoMemory` comes only then: the hall with a seat
-/// for each caller and a log row for each query that may write, the ledger behind its lock with a
-/// node for each caller and room for each job, and what `run_callers` takes. The call holds what it
-/// promises if it returns.
+/// All memory is taken before the first query, so `NoMemory` comes only then: the hall with a seat for each caller and
+/// a log row for each query that may write, the ledger behind its lock with a node for each caller and room for each
+/// job, and what `run_callers` takes. The call holds what it promises if it returns.
 pub fn run_script<R: Threads + Wait + Sync, T: Clocks, G: Gate>(
     rt: &R,
     alloc: Global,

@@ -1,4 +1,4 @@
-// The callers' passes: how they are split off the first ones, and how these take them in again.
+//! The callers' passes: how they are split off the first ones, and how these take them in again.
 ghost use Rattle.std.specs.Prelude.{◌≡◌, ◌+◌, ◌<◌, ◌≤◌, ℕ, [], length, map, sum_by, take, get_or, vec_len, vec_capacity, IfOk};
 ghost use Rattle.std.specs.VecDeque.{deque_len, deque_capacity};
 ghost use Rattle.hall.specs.Passes.{view, IsPassOf};
@@ -39,8 +39,8 @@ pub fn reserve_lists(alloc: Global, callers: &Callers) -> Result<Vec<Vec<Reply>>
     Ok(lists)
 }
 
-/// Gives each caller but the first passes of its number, with the quotas for its queries, a clock,
-/// and one of the lists. The first caller keeps the passes that the others' are split off.
+/// Gives each caller but the first passes of its number, with the quotas for its queries, a clock, and one of the
+/// lists. The first caller keeps the passes that the others' are split off.
 pub fn seat<T: Clocks>(
     hall: &Hall<MapCargo>,
     pass: &mut Pass<MapCargo>,
@@ -102,8 +102,8 @@ fn seat_one<T: Clocks>(
     }
 }
 
-/// Takes the passes of all callers but the first in, by their numbers, and adds their replies to the
-/// list that has the first caller's.
+/// Takes the passes of all callers but the first in, by their numbers, and adds their replies to the list that has the
+/// first caller's.
 pub fn gather<T: Clock + Drop>(
     hall: &Hall<MapCargo>,
     pass: &mut Pass<MapCargo>,

@@ -1,4 +1,4 @@
-// The top call.
+//! The top call.
 ghost use Rattle.std.specs.Prelude.{◌≡◌, ◌+◌, ◌≤◌, ◌⊎◌, None, IfOk, IfSome, IfErr, IsErrOf, OnOk, IsSome, List, ℕ};
 ghost use Rattle.std.specs.Io.KnownBytes.{Appends};
 ghost use Rattle.ql_base.specs.Bytes.{AppendsFront, TakesUpTo};
@@ -196,16 +196,15 @@ fn serve_soak<R: Threads + Wait + Sync, K: Sink, T: Clocks, G: Gate>(
     }
 }
 
-/// Does all that the program does, and answers its status: 0 done, 2 usage, 3 refused, 4 a read
-/// fault, 5 a write fault, 6 no memory.
+/// Does all that the program does, and answers its status: 0 done, 2 usage, 3 refused, 4 a read fault, 5 a write fault,
+/// 6 no memory.
 ///
-/// The steps of a run come in this order: the words, the reading, its length, the grammar, the memory
-/// of all that the queries need, the queries, the writing. A soak makes its script in place of the
-/// reading, and writes what its replies come to in place of the log. Want of memory may end either at
-/// each step before the first query. The clocks are asked where a query with a deadline is refused,
-/// and the runtime where one waits for a lock. What the closes of the hall and of the ledger's lock
-/// gave stands in `ended` at status 0, and at status 5 where a log or a summary was cut; else `ended`
-/// stays empty. The call holds what it promises if it returns.
+/// The steps of a run come in this order: the words, the reading, its length, the grammar, the memory of all that the
+/// queries need, the queries, the writing. A soak makes its script in place of the reading, and writes what its replies
+/// come to in place of the log. Want of memory may end either at each step before the first query. The clocks are asked
+/// where a query with a deadline is refused, and the runtime where one waits for a lock. What the closes of the hall
+/// and of the ledger's lock gave stands in `ended` at status 0, and at status 5 where a log or a summary was cut; else
+/// `ended` stays empty. The call holds what it promises if it returns.
 pub fn serve_main<R: Threads + Wait + Sync, S: Source, K: Sink, T: Clocks, G: Gate>(
     rt: &R,
     alloc: Global,
@@ -218,12 +217,12 @@ pub fn serve_main<R: Threads + Wait + Sync, S: Source, K: Sink, T: Clocks, G: Ga
 ) -> u8
     requires ended { (ended.old.hall ≡ None) × (ended.old.dist ≡ None) }
 
-    // Whatever the schedule, status 0 of a run has written exactly the printed form of one history,
-    // which the closes of this run tell too.
+    // Whatever the schedule, status 0 of a run has written exactly the printed form of one history, which the closes of
+    // this run tell too.
     ensures history { result ≡ 0 → IfSome (run_in words.now) (λ o. WritesOneHistory (S.left source.old) (S.left source.new) (K.written sink.old) (K.written sink.new) o ended.new) }
 
-    // Whatever the schedule, status 0 of a soak has written exactly its totals, and the closes tell
-    // one history of its script.
+    // Whatever the schedule, status 0 of a soak has written exactly its totals, and the closes tell one history of its
+    // script.
     ensures soak { result ≡ 0 → IfSome (soak_in words.now) (λ o. WritesSoak (K.written sink.old) (K.written sink.new) o ended.new) }
 
     // Each other status has its cause.

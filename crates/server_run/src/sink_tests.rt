@@ -1,5 +1,5 @@
-//! What no clause says: that a line of the log is handed to the sink as one piece, so a log that is
-//! cut by a failed write is cut at a line's end.
+//! What no clause says: that a line of the log is handed to the sink as one piece, so a log that is cut by a failed
+//! write is cut at a line's end.
 ghost use Rattle.std.specs.Prelude.{Some};
 
 use crate::{Ended, serve_main};

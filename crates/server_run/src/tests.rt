@@ -1,5 +1,5 @@
-//! What no clause says: that a run and a soak succeed with ample memory, that the statuses come by
-//! themselves, and that no query is asked where memory was wanting.
+//! What no clause says: that a run and a soak succeed with ample memory, that the statuses come by themselves, and that
+//! no query is asked where memory was wanting.
 use crate::{Ended, serve_main};
 use ql_base::{Gate, ListClocks, MemSink, MemSource, OpenGate};
 use std::alloc::{AllocError, Global};
@@ -81,8 +81,7 @@ impl Gate for CountGate {
     fn after(&self, _caller: u64, _query: u64) {}
 }
 
-// `cases/no-memory` runs this test with each of its allocations refused in turn. Those before the
-// call show nothing.
+// `cases/no-memory` runs this test with each of its allocations refused in turn. Those before the call show nothing.
 #[test]
 fn no_query_is_asked_where_memory_is_refused(rt: HostRuntime) {
     let alloc: Global = rt.alloc();

@@ -1,5 +1,6 @@
-//! The lock and the plain model side by side: each sequence of four events of three seats, under both policies. After each
-//! event the seat's role, and the lock's word, are those of the model. What a seat's guard says is carried beside its role.
+//! The lock and the plain model side by side: each sequence of four events of three seats, under both policies. After
+//! each event the seat's role, and the lock's word, are those of the model. What a seat's guard says is carried beside
+//! its role.
 ghost use Rattle.std.specs.Prelude.{◌≡◌, ◌<◌, true, false};
 ghost use Rattle.lock_model.specs.declared.model.Role.TheVariants.{Outside};
 ghost use Rattle.hall.specs.declared.guards.Form.TheVariants.{Lowered};
@@ -135,8 +136,8 @@ fn enter(hall: &Hall<NoCargo>, pass: &mut Pass<NoCargo>) -> Stand
     }
 }
 
-// The word has the bits of the roles in the model. Beside an announced writer, which has swept, its count is that of the
-// readers; else some of them may stand in slots.
+// The word has the bits of the roles in the model. Beside an announced writer, which has swept, its count is that of
+// the readers; else some of them may stand in slots.
 fn shows<A: Abort>(rt: &A, word: Word, model: &ModelLock) {
     let roles = [model.role(0), model.role(1), model.role(2)];
     let readers = roles

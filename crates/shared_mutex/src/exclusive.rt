@@ -13,8 +13,8 @@ use apply_deferred::scan;
 use hall::conflicts::conflicts_for_announcing;
 use hall::{Announced, Cargo, ExclusiveGuard, Hall, Pass, TryFault, Word};
 
-/// Announces a writer, by one load and one exchange. The pass has to be away from the lock, and is away after a refusal.
-/// The writer has swept no slot yet: `scan` of `apply_deferred` does it, before the writer tries to finish.
+/// Announces a writer, by one load and one exchange. The pass has to be away from the lock, and is away after a
+/// refusal. The writer has swept no slot yet: `scan` of `apply_deferred` does it, before the writer tries to finish.
 ///
 /// `Busy` comes exactly where the loaded word conflicts, `Raced` exactly where the exchange failed. At most 2 steps.
 pub fn announce<C: Cargo>(
@@ -71,9 +71,9 @@ fn take<C: Cargo>(
     }
 }
 
-/// The announced writer tries to take the lock, by one exchange. It may have been announced from outside or from upgrade,
-/// and has swept. It is refused exactly where the word found has a count other than 0; then it is still announced, and
-/// gets its `Announced` back.
+/// The announced writer tries to take the lock, by one exchange. It may have been announced from outside or from
+/// upgrade, and has swept. It is refused exactly where the word found has a count other than 0; then it is still
+/// announced, and gets its `Announced` back.
 pub fn try_finish<C: Cargo>(
     hall: &Hall<C>,
     pass: &mut Pass<C>,
@@ -123,9 +123,9 @@ pub fn retract<C: Cargo>(hall: &Hall<C>, pass: &mut Pass<C>, announced: Announce
     hall.retract(pass, lock);
 }
 
-/// Tries to take the lock exclusively: it announces a writer, sweeps, and tries once to finish. Where readers are inside it
-/// takes the announcement back, and answers `Busy` with the word that counted them. The pass has to be away from the lock,
-/// and is away after a refusal. At most 2 steps for each slot, and 5 more.
+/// Tries to take the lock exclusively: it announces a writer, sweeps, and tries once to finish. Where readers are
+/// inside it takes the announcement back, and answers `Busy` with the word that counted them. The pass has to be away
+/// from the lock, and is away after a refusal. At most 2 steps for each slot, and 5 more.
 pub fn try_lock<C: Cargo>(
     hall: &Hall<C>,
     pass: &mut Pass<C>,

@@ -3,9 +3,9 @@
 //!
 //! It stands on `hall`, each of whose events is one atomic step, and adds no step of its own.
 //!
-//! Its contracts say which standing each call leaves, how many steps it makes, and why it was refused: `Busy` and `Raced`
-//! carry words that were read in the call, and come only where another seat had been at the lock. No call takes memory
-//! or waits.
+//! Its contracts say which standing each call leaves, how many steps it makes, and why it was refused: `Busy` and
+//! `Raced` carry words that were read in the call, and come only where another seat had been at the lock. No call takes
+//! memory or waits.
 #![tactic(auto)]
 
 #[cfg(test)]

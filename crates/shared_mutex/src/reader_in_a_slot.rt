@@ -138,8 +138,8 @@ fn slot_has<A: Abort>(rt: &A, hall: &Hall<NoCargo>, pass: &mut Pass<NoCargo>, sl
     }
 }
 
-// A writer comes beside three readers that the count has and one in a slot. It sweeps the slot's unit into the count, finds
-// the readers, and gives up; the reader finds its slot cleared, and leaves by the count.
+// A writer comes beside three readers that the count has and one in a slot. It sweeps the slot's unit into the count,
+// finds the readers, and gives up; the reader finds its slot cleared, and leaves by the count.
 #[test]
 fn is_swept(rt: HostRuntime) {
     let made = Hall::make(rt.alloc(), 1, 32, Policy::WritePriority, 5, 0, NoCargo);
@@ -174,8 +174,8 @@ fn is_swept(rt: HostRuntime) {
     word_is(&rt, &hall, &mut two, 1);
 }
 
-// A reader has placed its token when a writer comes and sweeps. It isn't inside, and gives a unit back for its token; then
-// the writer takes the lock.
+// A reader has placed its token when a writer comes and sweeps. It isn't inside, and gives a unit back for its token;
+// then the writer takes the lock.
 #[test]
 fn is_swept_undecided(rt: HostRuntime) {
     let made = Hall::make(rt.alloc(), 1, 32, Policy::WritePriority, 4, 0, NoCargo);
@@ -251,8 +251,9 @@ fn adds_its_unit<A: Abort>(rt: &A, hall: &Hall<NoCargo>, pass: &mut Pass<NoCargo
     assert_eq!(rt; found.count(), -1);
 }
 
-// A writer pauses with a unit in its hand, which no slot and no count has. The reader finds its slot cleared, and gives a
-// unit back to a count of 0, which is -1 then. The writer goes on: its unit makes the count 0 again, and it takes the lock.
+// A writer pauses with a unit in its hand, which no slot and no count has. The reader finds its slot cleared, and gives
+// a unit back to a count of 0, which is -1 then. The writer goes on: its unit makes the count 0 again, and it takes the
+// lock.
 #[test]
 fn a_writer_pauses_with_a_unit_in_its_hand(rt: HostRuntime) {
     let made = Hall::make(rt.alloc(), 1, 2, Policy::WritePriority, 2, 0, NoCargo);

@@ -85,12 +85,13 @@ fn settle<C: Cargo>(
     }
 }
 
-/// Tries to enter as a reader. Where the loaded word lets readers defer it places a token in a slot and looks at the word
-/// again; else, or where both its slots are taken, it enters by the count, by one exchange from the loaded word. The pass
-/// has to be away from the lock, with no token undecided and no unit owed elsewhere, and is away after a refusal.
+/// Tries to enter as a reader. Where the loaded word lets readers defer it places a token in a slot and looks at the
+/// word again; else, or where both its slots are taken, it enters by the count, by one exchange from the loaded word.
+/// The pass has to be away from the lock, with no token undecided and no unit owed elsewhere, and is away after a
+/// refusal.
 ///
-/// `Busy` comes exactly where the loaded word conflicts, or the one at the second look; `Raced` where the exchange failed,
-/// or where readers no longer deferred at the second look, for a word that doesn't conflict. At most 6 steps.
+/// `Busy` comes exactly where the loaded word conflicts, or the one at the second look; `Raced` where the exchange
+/// failed, or where readers no longer deferred at the second look, for a word that doesn't conflict. At most 6 steps.
 pub fn try_lock_shared<C: Cargo>(
     hall: &Hall<C>,
     pass: &mut Pass<C>,

@@ -439,8 +439,8 @@ fn by_four_threads<R: Threads + Wait + Sync>(
     )
 }
 
-// Four threads read and write, a thousand tries each for both. However they met, and whatever was deferred and swept, no
-// unit is lost: each of the four gained no more than it tried for, and they leave a free lock.
+// Four threads read and write, a thousand tries each for both. However they met, and whatever was deferred and swept,
+// no unit is lost: each of the four gained no more than it tried for, and they leave a free lock.
 #[test]
 fn four_threads(rt: HostRuntime) {
     let made = Hall::make(rt.alloc(), 1, 4, Policy::WritePriority, 4, 0, NoCargo);

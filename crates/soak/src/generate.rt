@@ -1,4 +1,4 @@
-// The script of a soak.
+//! The script of a soak.
 ghost use Rattle.std.specs.Prelude.{◌≡◌, ◌≤◌, ◌<◌, ◌++◌, ◌∷◌, [], IfOk, OnOk};
 ghost use Rattle.query_rules.specs.Soak.{soak_from, share, soak_script};
 ghost use Rattle.query_rules.specs.Soak as rules;

@@ -1,4 +1,4 @@
-// What the replies to a soak sum up to.
+//! What the replies to a soak sum up to.
 ghost use Rattle.std.specs.Prelude.{◌≡◌, ◌≤◌, ◌<◌, ◌+◌, ◌^◌, length, sum_by, zip};
 ghost use Rattle.std.specs.List.{AllZip};
 ghost use Rattle.query_rules.specs.History.{IsHistory, AnswersEachOnce, entries};
@@ -11,9 +11,9 @@ ghost use Rattle.query_rules.specs.declared.query.TheConstants.{MOST_QUERIES};
 use query_text::{Outcome, Query, Reply, Script, Totals};
 use soak_laws::a_soak_has_one_summary;
 
-/// What the replies to the soak of `count` queries come to: their counts, the sum of what was added
-/// to the maps, and the sum of what was given to the ledger. In every history of the script these
-/// are its totals, and the values of its maps and of its ledger at the end have the same sums.
+/// What the replies to the soak of `count` queries come to: their counts, the sum of what was added to the maps, and
+/// the sum of what was given to the ledger. In every history of the script these are its totals, and the values of its
+/// maps and of its ledger at the end have the same sums.
 ///
 /// It goes over the replies twice, and takes no memory.
 pub fn sum_up(count: u64, script: &Script, outcome: &Outcome) -> Totals

@@ -135,7 +135,8 @@ impl<'a> Attempt for UpgradeAttempt<'a> {
 
 /// Announcing a writer at a cell, by a pass that is away from it, and sweeping for it.
 ///
-/// What an announced writer has is its pass's standing. Between two tries the waits of this crate name it by its cell alone.
+/// What an announced writer has is its pass's standing. Between two tries the waits of this crate name it by its cell
+/// alone.
 #[derive(Drop)]
 pub(crate) struct AnnounceAttempt<'a> {
     pub(crate) hall: &'a Hall<MapCargo>,
@@ -194,8 +195,8 @@ impl<'a> Attempt for AnnounceAttempt<'a> {
     }
 }
 
-/// Announcing the pass that holds upgrade at a cell as a writer, and sweeping for it. Nothing but a race is in its way, and
-/// then it holds upgrade as before.
+/// Announcing the pass that holds upgrade at a cell as a writer, and sweeping for it. Nothing but a race is in its way,
+/// and then it holds upgrade as before.
 #[derive(Drop)]
 pub(crate) struct BeginAttempt<'a> {
     pub(crate) hall: &'a Hall<MapCargo>,
@@ -265,8 +266,8 @@ impl<'a> Attempt for BeginAttempt<'a> {
     }
 }
 
-/// Taking a cell as a writer that its pass has announced there, from outside or from upgrade. It stays announced between
-/// the tries.
+/// Taking a cell as a writer that its pass has announced there, from outside or from upgrade. It stays announced
+/// between the tries.
 #[derive(Drop)]
 pub(crate) struct FinishAttempt<'a> {
     pub(crate) hall: &'a Hall<MapCargo>,

@@ -1,8 +1,8 @@
-//! The cells and the plain model side by side: each sequence of four calls of three seats, under both policies. After each
-//! call the seat's role, and the cell's word, are those of the model.
+//! The cells and the plain model side by side: each sequence of four calls of three seats, under both policies. After
+//! each call the seat's role, and the cell's word, are those of the model.
 //!
-//! A call that waits is made only where the model lets it through at once: one thread makes all calls. In the model a call
-//! to write is a writer's announcement, its try to finish, and where that is refused its retraction.
+//! A call that waits is made only where the model lets it through at once: one thread makes all calls. In the model a
+//! call to write is a writer's announcement, its try to finish, and where that is refused its retraction.
 ghost use Rattle.std.specs.Prelude.{◌≡◌, ◌<◌};
 ghost use Rattle.hall.specs.Passes.{view, shape_of};
 ghost use Rattle.hall.specs.declared.guards.Form.TheVariants.{Lowered};

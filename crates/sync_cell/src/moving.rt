@@ -26,8 +26,8 @@ use upgrade_mode::{exclusive_to_shared, exclusive_to_upgrade, upgrade_to_shared}
 /// Waits until the readers of a cell have left that is held in upgrade mode, and holds it for writing.
 ///
 /// It is announced as a writer first and sweeps once; then it tries again and again, stays announced between its tries,
-/// and holds upgrade until it writes: nobody can write in between, and what the pass knows of the cell's map stays true.
-/// Its contract holds if it returns.
+/// and holds upgrade until it writes: nobody can write in between, and what the pass knows of the cell's map stays
+/// true. Its contract holds if it returns.
 pub fn move_from_upgrade_to_write<R: Wait>(
     rt: &R,
     hall: &Hall<MapCargo>,
@@ -88,8 +88,8 @@ pub fn move_from_write_to_read(
     }
 }
 
-/// Goes from writing a cell to holding it in upgrade mode, by one step: readers may come, and no other pass can write before
-/// this one does. The words of the cell have to mean its map.
+/// Goes from writing a cell to holding it in upgrade mode, by one step: readers may come, and no other pass can write
+/// before this one does. The words of the cell have to mean its map.
 pub fn move_from_write_to_upgrade(
     hall: &Hall<MapCargo>,
     pass: &mut Pass<MapCargo>,

@@ -19,9 +19,9 @@ impl ReadPtr {
     }
 }
 
-/// A cell held in upgrade mode: beside readers, and by one pass at a time, which may go on to write. The right to the cell
-/// is the pass's standing, which this value names. It must be given back by `unlock_upgrade_ptr`, or moved to another
-/// mode: code that drops it doesn't compile.
+/// A cell held in upgrade mode: beside readers, and by one pass at a time, which may go on to write. The right to the
+/// cell is the pass's standing, which this value names. It must be given back by `unlock_upgrade_ptr`, or moved to
+/// another mode: code that drops it doesn't compile.
 #[derive(Debug)]
 pub struct UpgradePtr {
     pub guard: UpgradeGuard,

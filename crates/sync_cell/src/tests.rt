@@ -293,8 +293,8 @@ fn a_late_writer_is_away(rt: HostRuntime) -> Result<(), AllocError> {
     Ok(())
 }
 
-// After an announcement was taken back readers defer: the cell is held for reading by a token in a slot, and its word isn't
-// written. A writer that comes moves the token into the count, finds the reader there, and leaves it there.
+// After an announcement was taken back readers defer: the cell is held for reading by a token in a slot, and its word
+// isn't written. A writer that comes moves the token into the count, finds the reader there, and leaves it there.
 #[test]
 fn a_reader_defers(rt: HostRuntime) {
     let cargo = MapCargo {
@@ -326,8 +326,9 @@ fn a_reader_defers(rt: HostRuntime) {
     assert_eq!(rt; hall.load(&mut writer, 0), Word(1));
 }
 
-// A seat stops after it announced a writer. Under write priority nobody gets in: each try is refused for the word 4, and
-// each wait is late with it, at the clock's answer. After it took the announcement back, readers and writers get in.
+// A seat stops after it announced a writer. Under write priority nobody gets in: each try is refused for the word 4,
+// and each wait is late with it, at the clock's answer. After it took the announcement back, readers and writers get
+// in.
 #[test]
 fn a_paused_writer_under_write_priority(rt: HostRuntime) -> Result<(), AllocError> {
     let cargo = MapCargo {

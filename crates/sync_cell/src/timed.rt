@@ -23,8 +23,8 @@ use std::sync::Wait;
 use timed_wait::{Late, wait_until};
 
 /// Waits until the cell can be read, and holds it for reading; or until a try was refused and the clock, asked next,
-/// answers the deadline or later. The pass has to be away from the cell, with no token undecided and no unit owed elsewhere,
-/// and is away where it is late.
+/// answers the deadline or later. The pass has to be away from the cell, with no token undecided and no unit owed
+/// elsewhere, and is away where it is late.
 ///
 /// One try is always made first, so a free cell is `Ok` whatever the deadline is, and the clock isn't asked. After each
 /// refused try the clock is asked once. Its contract holds if it returns.
@@ -60,12 +60,12 @@ pub fn rlock_until<R: Wait, T: Clock>(
     }
 }
 
-/// Waits until no other pass writes or holds upgrade at the cell, and holds it in upgrade mode; or until a try was refused
-/// and the clock, asked next, answers the deadline or later. Readers aren't in the way. The pass has to be away from the
-/// cell, and is away where it is late.
+/// Waits until no other pass writes or holds upgrade at the cell, and holds it in upgrade mode; or until a try was
+/// refused and the clock, asked next, answers the deadline or later. Readers aren't in the way. The pass has to be away
+/// from the cell, and is away where it is late.
 ///
-/// One try is always made first, so where nothing conflicts it is `Ok` whatever the deadline is, and the clock isn't asked.
-/// After each refused try the clock is asked once. Its contract holds if it returns.
+/// One try is always made first, so where nothing conflicts it is `Ok` whatever the deadline is, and the clock isn't
+/// asked. After each refused try the clock is asked once. Its contract holds if it returns.
 pub fn ulock_until<R: Wait, T: Clock>(
     rt: &R,
     hall: &Hall<MapCargo>,

@@ -19,13 +19,13 @@ use map_cargo::MapCargo;
 use shared_mutex::{try_lock, try_lock_shared, unlock, unlock_shared};
 use upgrade_mode::{try_lock_upgrade, unlock_upgrade};
 
-/// Tries to hold the cell for reading. Where the loaded word lets readers defer it places a token in a slot and looks at
-/// the word again; else, or where both its slots are taken, it enters by the count, by one exchange. The pass has to be away
-/// from the cell, with no token undecided and no unit owed elsewhere, and is away after a refusal.
+/// Tries to hold the cell for reading. Where the loaded word lets readers defer it places a token in a slot and looks
+/// at the word again; else, or where both its slots are taken, it enters by the count, by one exchange. The pass has to
+/// be away from the cell, with no token undecided and no unit owed elsewhere, and is away after a refusal.
 ///
-/// `Busy` comes exactly where the loaded word conflicts, or the one at the second look; `Raced` where the exchange failed, or
-/// where readers no longer deferred at the second look, for a word that doesn't conflict. At most 6 steps, each made with no
-/// mode held at the cell.
+/// `Busy` comes exactly where the loaded word conflicts, or the one at the second look; `Raced` where the exchange
+/// failed, or where readers no longer deferred at the second look, for a word that doesn't conflict. At most 6 steps,
+/// each made with no mode held at the cell.
 pub fn try_rlock(
     hall: &Hall<MapCargo>,
     pass: &mut Pass<MapCargo>,
@@ -50,11 +50,11 @@ pub fn try_rlock(
     }
 }
 
-/// Tries to hold the cell in upgrade mode, by one load and one exchange. Readers aren't in the way. The pass has to be away
-/// from the cell, and is away after a refusal.
+/// Tries to hold the cell in upgrade mode, by one load and one exchange. Readers aren't in the way. The pass has to be
+/// away from the cell, and is away after a refusal.
 ///
-/// `Busy` comes exactly where the loaded word conflicts, `Raced` exactly where the exchange failed. At most 2 steps, each
-/// made with no mode held at the cell.
+/// `Busy` comes exactly where the loaded word conflicts, `Raced` exactly where the exchange failed. At most 2 steps,
+/// each made with no mode held at the cell.
 pub fn try_ulock(
     hall: &Hall<MapCargo>,
     pass: &mut Pass<MapCargo>,
@@ -77,9 +77,10 @@ pub fn try_ulock(
     }
 }
 
-/// Tries to hold the cell for writing: it announces a writer, sweeps, and tries once to finish. Where readers are inside
-/// it takes the announcement back, and answers `Busy` with the word that counted them. The pass has to be away from the
-/// cell, and is away after a refusal. At most 2 steps for each slot, and 5 more, each made with no mode held at the cell.
+/// Tries to hold the cell for writing: it announces a writer, sweeps, and tries once to finish. Where readers are
+/// inside it takes the announcement back, and answers `Busy` with the word that counted them. The pass has to be away
+/// from the cell, and is away after a refusal. At most 2 steps for each slot, and 5 more, each made with no mode held
+/// at the cell.
 pub fn try_wlock(
     hall: &Hall<MapCargo>,
     pass: &mut Pass<MapCargo>,

@@ -19,11 +19,11 @@ use map_cargo::MapCargo;
 use std::sync::Wait;
 use timed_wait::wait;
 
-/// Waits until the cell can be read, and holds it for reading. The pass has to be away from the cell, with no token undecided
-/// and no unit owed elsewhere.
+/// Waits until the cell can be read, and holds it for reading. The pass has to be away from the cell, with no token
+/// undecided and no unit owed elsewhere.
 ///
-/// It tries again and again, and lets another thread run between two tries. A refused try only looks, or takes back the token
-/// that it placed. Its contract holds if it returns.
+/// It tries again and again, and lets another thread run between two tries. A refused try only looks, or takes back the
+/// token that it placed. Its contract holds if it returns.
 pub fn rlock<R: Wait>(
     rt: &R,
     hall: &Hall<MapCargo>,
@@ -47,8 +47,8 @@ pub fn rlock<R: Wait>(
     ReadPtr { guard }
 }
 
-/// Waits until no other pass writes or holds upgrade at the cell, and holds it in upgrade mode. Readers aren't in the way.
-/// The pass has to be away from the cell.
+/// Waits until no other pass writes or holds upgrade at the cell, and holds it in upgrade mode. Readers aren't in the
+/// way. The pass has to be away from the cell.
 ///
 /// It tries again and again, and lets another thread run between two tries. A refused try only looks. Its contract
 /// holds if it returns.

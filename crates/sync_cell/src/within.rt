@@ -23,8 +23,8 @@ use std::sync::Wait;
 /// Waits until the cell can be read, calls `f` once while it is held for reading, gives the cell back, and answers what
 /// `f` answered. The pass has to be away from the cell, with no token undecided and no unit owed elsewhere.
 ///
-/// `f` must stand being called with any pass that has just taken the cell, and must leave its modes and its standing
-/// at the cell as they are. The contract holds if the call returns.
+/// `f` must stand being called with any pass that has just taken the cell, and must leave its modes and its standing at
+/// the cell as they are. The contract holds if the call returns.
 pub fn with_rlock<W: Wait, R, F: FnOnce(&Hall<MapCargo>, &mut Pass<MapCargo>, &ReadPtr) -> R>(
     rt: &W,
     hall: &Hall<MapCargo>,
@@ -53,11 +53,11 @@ pub fn with_rlock<W: Wait, R, F: FnOnce(&Hall<MapCargo>, &mut Pass<MapCargo>, &R
     answer
 }
 
-/// Waits until no other pass writes or holds upgrade at the cell, calls `f` once while it is held in upgrade mode, gives the cell back, and answers what
-/// `f` answered. The pass has to be away from the cell.
+/// Waits until no other pass writes or holds upgrade at the cell, calls `f` once while it is held in upgrade mode,
+/// gives the cell back, and answers what `f` answered. The pass has to be away from the cell.
 ///
-/// `f` must stand being called with any pass that has just taken the cell, and must leave its modes and its standing
-/// at the cell as they are. The contract holds if the call returns.
+/// `f` must stand being called with any pass that has just taken the cell, and must leave its modes and its standing at
+/// the cell as they are. The contract holds if the call returns.
 pub fn with_ulock<W: Wait, R, F: FnOnce(&Hall<MapCargo>, &mut Pass<MapCargo>, &UpgradePtr) -> R>(
     rt: &W,
     hall: &Hall<MapCargo>,

@@ -5,12 +5,11 @@ ghost use Rattle.std.specs.declared.option.Option.{Option};
 
 /// What can be tried again where it was refused.
 ///
-/// `refuses` and `gives` speak of all tries of one call, as far as they have come. So what a call
-/// promises is what one try promises, and what the refused tries before it leave.
+/// `refuses` and `gives` speak of all tries of one call, as far as they have come. So what a call promises is what one
+/// try promises, and what the refused tries before it leave.
 ///
-/// A type that tries something of its caller's holds it by `&mut`. For the caller to know its value
-/// afterwards, `refuses` and `gives` say that this is still the same reference, by its
-/// `ghost_name`.
+/// A type that tries something of its caller's holds it by `&mut`. For the caller to know its value afterwards,
+/// `refuses` and `gives` say that this is still the same reference, by its `ghost_name`.
 pub trait Attempt {
     /// What a try that succeeds gives.
     type Got;
@@ -27,13 +26,12 @@ pub trait Attempt {
     /// What the latest try was refused with, or nothing where it succeeded.
     ghost fault: { Self → Option Self.Fault };
 
-    /// What holds where tries were made one after the other and all were refused: of the attempt
-    /// before the first of them, of the last one's fault, and of the attempt after it.
+    /// What holds where tries were made one after the other and all were refused: of the attempt before the first of
+    /// them, of the last one's fault, and of the attempt after it.
     ghost refuses: { Self → Self.Fault → Self → Type 0 };
 
-    /// What holds where tries were made one after the other and all were refused but the last: of
-    /// the attempt before the first of them, of what the last one gave, and of the attempt after
-    /// it.
+    /// What holds where tries were made one after the other and all were refused but the last: of the attempt before
+    /// the first of them, of what the last one gave, and of the attempt after it.
     ghost gives: { Self → Self.Got → Self → Type 0 };
 
     /// Tries once.

@@ -35,12 +35,11 @@ pub fn wait<R: Wait, A: Attempt>(rt: &R, attempt: &mut A) -> A::Got
     unreachable!()
 }
 
-/// Tries until a try succeeds, or until one was refused and the clock, asked next, answers the
-/// deadline or later.
+/// Tries until a try succeeds, or until one was refused and the clock, asked next, answers the deadline or later.
 ///
-/// One try is always made first, so one that succeeds at once is `Ok` whatever the deadline is, and
-/// the clock isn't asked. After each refused try the clock is asked once. It may fall and jump.
-/// Between two tries the call lets another thread run. Its contract holds if it returns.
+/// One try is always made first, so one that succeeds at once is `Ok` whatever the deadline is, and the clock isn't
+/// asked. After each refused try the clock is asked once. It may fall and jump. Between two tries the call lets another
+/// thread run. Its contract holds if it returns.
 pub fn wait_until<R: Wait, A: Attempt, T: Clock>(
     rt: &R,
     attempt: &mut A,
@@ -61,8 +60,7 @@ pub fn wait_until<R: Wait, A: Attempt, T: Clock>(
         clock.new ≡ clock.old) }
     ensures early { OnOk result ((clock.new ≡ clock.old) ⊎ (T.last clock.new < deadline)) }
 
-    // The last try was refused, and the clock, asked next, answered the deadline or later for the
-    // first time.
+    // The last try was refused, and the clock, asked next, answered the deadline or later for the first time.
     ensures refuses { IfErr result (λ late. A.refuses attempt.old late.fault attempt.new) }
     ensures fault { IfErr result (λ late. A.fault attempt.new ≡ Some late.fault) }
     ensures ready { OnErr result (A.ready attempt.new) }

@@ -254,8 +254,8 @@ fn call(hall: &Hall<NoCargo>, pass: &mut Pass<NoCargo>, stand: Stand, act: Act) 
     }
 }
 
-// The word has the bits of the roles in the model. While readers may not defer its count is that of the readers; else some
-// of them may stand in slots.
+// The word has the bits of the roles in the model. While readers may not defer its count is that of the readers; else
+// some of them may stand in slots.
 fn shows<A: Abort>(rt: &A, word: Word, model: &ModelLock) {
     let roles = [model.role(0), model.role(1), model.role(2)];
     let plain = Role::Announces {

@@ -1,5 +1,5 @@
-//! From upgrade to an exclusive hold: the upgrade holder is announced as a writer first, and takes the lock once no reader
-//! is inside, by `shared_mutex::try_finish` as any announced writer. It holds upgrade all the while.
+//! From upgrade to an exclusive hold: the upgrade holder is announced as a writer first, and takes the lock once no
+//! reader is inside, by `shared_mutex::try_finish` as any announced writer. It holds upgrade all the while.
 ghost use Rattle.std.specs.Prelude.{◌≡◌, true, false, MatchResult};
 ghost use Rattle.hall.specs.Fitting.{AnnouncedFits, UpgradeFits};
 ghost use Rattle.hall.specs.Passes.{view, IsPassOf, shape_of};
@@ -23,8 +23,8 @@ pub struct BeginRaced {
     pub found: Word,
 }
 
-/// Announces the upgrade holder as a writer, by one load and one exchange. Nobody else can be announced or hold the lock
-/// exclusively, so nothing but a race refuses it. The writer has swept no slot yet. At most 2 steps.
+/// Announces the upgrade holder as a writer, by one load and one exchange. Nobody else can be announced or hold the
+/// lock exclusively, so nothing but a race refuses it. The writer has swept no slot yet. At most 2 steps.
 pub fn begin_upgrade<C: Cargo>(
     hall: &Hall<C>,
     pass: &mut Pass<C>,

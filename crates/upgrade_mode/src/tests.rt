@@ -1,5 +1,5 @@
-//! What no clause says: that the words are those that are meant, step by step, and that calls succeed where nobody is in
-//! the way.
+//! What no clause says: that the words are those that are meant, step by step, and that calls succeed where nobody is
+//! in the way.
 ghost use Rattle.std.specs.Prelude.{◌≡◌, ◌<◌, true, false};
 ghost use Rattle.hall.specs.Fitting.{SharedFits};
 ghost use Rattle.hall.specs.Passes.{view, IsPassOf, shape_of};

@@ -118,8 +118,8 @@ impl<P: Freight> Chain<P> {
         }
     }
 
-    /// Cuts a new pass off: it gets the last `nodes` of the spare numbers, of which the first is its own, and so much of
-    /// the quota. It begins idle, with empty lists.
+    /// Cuts a new pass off: it gets the last `nodes` of the spare numbers, of which the first is its own, and so much
+    /// of the quota. It begins idle, with empty lists.
     pub fn split(&self, pass: &mut ChainPass<P>, nodes: u64, quota: u64) -> ChainPass<P>
         requires own { pass.old.seat.table_id ≡ self.now.table.shared.table_id }
         requires idle { IsIdle pass.old.seat.me }
@@ -258,9 +258,9 @@ impl<P: Freight> Chain<P> {
         })
     }
 
-    /// Three steps: a store of 0 into its own link, one of 1, or of 2 with a job, into its own status, and a swap of its
-    /// own number + 2 into the central word. It is the owner exactly where the swap found 0. With a job, the job lies in
-    /// its own job slot and is paid for by the swap.
+    /// Three steps: a store of 0 into its own link, one of 1, or of 2 with a job, into its own status, and a swap of
+    /// its own number + 2 into the central word. It is the owner exactly where the swap found 0. With a job, the job
+    /// lies in its own job slot and is paid for by the swap.
     pub fn enter(&self, pass: &mut ChainPass<P>, kind: Kind) -> Entered
         requires own { pass.old.seat.table_id ≡ self.now.table.shared.table_id }
         requires enters { MayEnter P.is_job kind pass.old.seat.me }
@@ -431,8 +431,8 @@ impl<P: Freight> Chain<P> {
         pass.quota -= runs.count;
     }
 
-    /// One store into the next node's status, which makes that node the owner. The value stands in slot 0, as the pass's
-    /// own jobs have left it.
+    /// One store into the next node's status, which makes that node the owner. The value stands in slot 0, as the
+    /// pass's own jobs have left it.
     pub fn grant(&self, pass: &mut ChainPass<P>, turn: Turn, runs: &OwnRuns<P>)
         requires own { pass.old.seat.table_id ≡ self.now.table.shared.table_id }
         requires turn { HasTurn self.now.table.shared.table_id.slots turn pass.old.seat.me }

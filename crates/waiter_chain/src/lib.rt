@@ -2,8 +2,8 @@
 //! the owner of the lock reads or writes it. The chain is that of Folly's `DistributedMutex`: a waiter swaps its own
 //! number into one central word and then waits on a word of its own.
 //!
-//! The crate stands on `atomic_table`, whose rule holds between any two steps of any passes. `specs/Chains.antt` has the
-//! rule of this table: there is at most one owner, the central word is 0 exactly where there is none, lists hold
+//! The crate stands on `atomic_table`, whose rule holds between any two steps of any passes. `specs/Chains.antt` has
+//! the rule of this table: there is at most one owner, the central word is 0 exactly where there is none, lists hold
 //! exactly the waiting nodes and those whose jobs have run, and it says of each node what stands in its words and its
 //! slots. `specs/Goods.antt` has the laws of what a chain carries.
 //!

@@ -39,8 +39,8 @@ fn slots<P: Drop>(alloc: Global, count: u64, first: P) -> Result<Vec<Option<P>>,
     Ok(slots)
 }
 
-/// What a close leaves of the closing pass, for the proofs: its list of jobs and answers among all that its view has. It
-/// comes only from a close.
+/// What a close leaves of the closing pass, for the proofs: its list of jobs and answers among all that its view has.
+/// It comes only from a close.
 #[derive(Drop)]
 pub struct Retired<P> {
     pub(crate) combine: u32,
@@ -57,8 +57,8 @@ impl<P> Retired<P> {
 }
 
 impl<P: Freight + Drop> Chain<P> {
-    /// A free chain of `nodes` nodes (1 to `MOST_NODES`) with the value `first`, and the pass that has all numbers and the whole quota. Its
-    /// cost is O(nodes). Where it is refused for want of memory, `first` is dropped.
+    /// A free chain of `nodes` nodes (1 to `MOST_NODES`) with the value `first`, and the pass that has all numbers and
+    /// the whole quota. Its cost is O(nodes). Where it is refused for want of memory, `first` is dropped.
     pub fn make(
         alloc: Global,
         nodes: u64,

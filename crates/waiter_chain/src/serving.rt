@@ -60,8 +60,8 @@ impl<P: Freight> Chain<P> {
         link
     }
 
-    /// One load of the link of the next node, which was seen to wait with a job. Where it is not 0, that node's job slot
-    /// and answer slot are in the owner's hand.
+    /// One load of the link of the next node, which was seen to wait with a job. Where it is not 0, that node's job
+    /// slot and answer slot are in the owner's hand.
     pub fn link_of(&self, pass: &mut ChainPass<P>, turn: &Turn) -> u64
         requires own { pass.old.seat.table_id ≡ self.now.table.shared.table_id }
         requires turn { HasTurn self.now.table.shared.table_id.slots turn.now pass.old.seat.me }
@@ -102,8 +102,8 @@ impl<P: Freight> Chain<P> {
     }
 
     /// One store of 3 into the status of the next node, whose job has run: its answer lies in its answer slot, and what
-    /// the job made of the value is in the owner's hand. The jobs that the owner has run for itself before enter its own
-    /// list here, and its quota falls by the number of those that it had not posted.
+    /// the job made of the value is in the owner's hand. The jobs that the owner has run for itself before enter its
+    /// own list here, and its quota falls by the number of those that it had not posted.
     pub fn step_over(
         &self,
         pass: &mut ChainPass<P>,

@@ -1,5 +1,5 @@
-//! What a pass knows of its chain, as plain data. No value of these types but an `StepEntry`'s parts is ever made: a pass
-//! carries its view for the proofs alone.
+//! What a pass knows of its chain, as plain data. No value of these types but an `StepEntry`'s parts is ever made: a
+//! pass carries its view for the proofs alone.
 use std::collections::LinkedList;
 use std::snapshot::Snapshot;
 
@@ -92,8 +92,8 @@ pub enum Stage<P> {
     Holding,
     /// It is about to enter, and its link is 0. Whether it has its own job slot in hand.
     Cleared(bool),
-    /// Its link is 0 and its status says how it enters, and it has not swapped itself in yet. Where it enters with a job it has its own job
-    /// slot in hand.
+    /// Its link is 0 and its status says how it enters, and it has not swapped itself in yet. Where it enters with a
+    /// job it has its own job slot in hand.
     Ready(bool),
     /// It waits. The word that its swap found, and the job that it has posted, where it has posted one.
     Behind(u64, Option<P>),
