@@ -14,6 +14,7 @@ ghost use Rattle.server_run.specs.Rooms.{HasCells, MayAsk};
 ghost use Rattle.query_rules.specs.declared.query.TheConstants.{MOST_QUERIES};
 
 use crate::reserved::push_reserved;
+use crossbeam_utils::CachePadded;
 use dist_mutex::mutex::DistMutex;
 use dist_mutex::pass::DistPass;
 use hall::{Hall, Pass};
@@ -32,6 +33,8 @@ pub struct Caller<T> {
     pub dist_pass: DistPass<Ledger, LedgerJob>,
     pub clock: T,
     pub replies: Vec<Reply>,
+    /// Keeps what one thread writes off the cache lines of its neighbour in a list of callers.
+    pub apart: CachePadded<()>,
 }
 
 /// Asks these queries of one caller in their order, with the gate around each, and keeps the replies. The caller's

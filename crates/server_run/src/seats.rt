@@ -16,6 +16,7 @@ ghost use Rattle.server_run.specs.Rooms.{IsFirst, IsFirstOf};
 
 use crate::caller::Caller;
 use crate::reserved::push_reserved;
+use crossbeam_utils::CachePadded;
 use dist_mutex::mutex::DistMutex;
 use dist_mutex::pass::DistPass;
 use hall::{Hall, Pass};
@@ -99,6 +100,7 @@ fn seat_one<T: Clocks>(
         dist_pass: dist_own,
         clock: clocks.clock(number),
         replies,
+        apart: CachePadded::new(()),
     }
 }
 
@@ -150,6 +152,7 @@ fn take_in<T: Clock + Drop>(
         dist_pass: dist_own,
         clock: _,
         replies,
+        apart: _,
     } = caller;
     hall.join(pass, own);
     dist.join(dist_pass, dist_own);
