@@ -3,13 +3,13 @@ ghost use Rattle.std.specs.Prelude.{◌≡◌, ◌+◌, ◌*◌, ◌<◌, ◌≤
 ghost use Rattle.ql_base.specs.Bytes.{Writes};
 ghost use Rattle.ql_base.specs.Causes.{HasCause};
 ghost use Rattle.query_rules.specs.Log.{said_words, found_words, ledger_words, reply_words, answer_line, number_line};
-ghost use Rattle.query_rules.specs.Verbs.{query_words};
+ghost use Rattle.query_rules.specs.Verbs.{query_words, verb_word};
 ghost use Rattle.query_text.specs.Spaced.{spaced, placed_bytes};
 
 use crate::digits::count_digits;
 use itoa::{Buffer, write_digits};
 use ql_base::{Failed, Sink, write_whole};
-use query_rules::{LedgerTold, LedgerTrouble, Query, Reply, Said};
+use query_rules::{LedgerTold, LedgerTrouble, Query, Reply, Said, Verb};
 use std::marker::Model;
 
 /// The most bytes that a line has, its end among them.
@@ -140,6 +140,16 @@ impl Line {
         self.numbers(numbers);
     }
 
+    // Adds the name of a query and its numbers.
+    #[inline(always)]
+    fn asked(&mut self, verb: Verb, numbers: &[u64])
+        requires { length self.old + length (verb_word verb) + 21 * length numbers.now < 248 }
+        ensures line { self.new ≡ self.old ++ spaced (verb_word verb ∷ map decimal numbers.now) }
+        ensures len { length self.new ≤ length self.old + 1 + length (verb_word verb) + 21 * length numbers.now }
+    {
+        self.call(verb.word(), numbers);
+    }
+
     /// Adds the words of a query.
     pub fn query(&mut self, query: &Query)
         requires { length self.old ≤ 100 }
@@ -147,36 +157,36 @@ impl Line {
         ensures len { length self.new ≤ length self.old + 91 }
     {
         match *query {
-            Query::Get { cell, key } => self.call(b"get", &[cell, key]),
-            Query::Len { cell } => self.call(b"len", &[cell]),
-            Query::Put { cell, key, value } => self.call(b"put", &[cell, key, value]),
-            Query::Del { cell, key } => self.call(b"del", &[cell, key]),
-            Query::Add { cell, key, delta } => self.call(b"add", &[cell, key, delta]),
+            Query::Get { cell, key } => self.asked(Verb::Get, &[cell, key]),
+            Query::Len { cell } => self.asked(Verb::Len, &[cell]),
+            Query::Put { cell, key, value } => self.asked(Verb::Put, &[cell, key, value]),
+            Query::Del { cell, key } => self.asked(Verb::Del, &[cell, key]),
+            Query::Add { cell, key, delta } => self.asked(Verb::Add, &[cell, key, delta]),
             Query::Cas {
                 cell,
                 key,
                 old,
                 new,
-            } => self.call(b"cas", &[cell, key, old, new]),
-            Query::PutLen { cell, key, value } => self.call(b"putlen", &[cell, key, value]),
-            Query::Move { from, to, key, n } => self.call(b"move", &[from, to, key, n]),
-            Query::Both { first, second, key } => self.call(b"both", &[first, second, key]),
-            Query::TryGet { cell, key } => self.call(b"tryget", &[cell, key]),
-            Query::TryPut { cell, key, value } => self.call(b"tryput", &[cell, key, value]),
+            } => self.asked(Verb::Cas, &[cell, key, old, new]),
+            Query::PutLen { cell, key, value } => self.asked(Verb::PutLen, &[cell, key, value]),
+            Query::Move { from, to, key, n } => self.asked(Verb::Move, &[from, to, key, n]),
+            Query::Both { first, second, key } => self.asked(Verb::Both, &[first, second, key]),
+            Query::TryGet { cell, key } => self.asked(Verb::TryGet, &[cell, key]),
+            Query::TryPut { cell, key, value } => self.asked(Verb::TryPut, &[cell, key, value]),
             Query::GetBy {
                 cell,
                 key,
                 deadline,
-            } => self.call(b"getby", &[cell, key, deadline]),
+            } => self.asked(Verb::GetBy, &[cell, key, deadline]),
             Query::PutBy {
                 cell,
                 key,
                 value,
                 deadline,
-            } => self.call(b"putby", &[cell, key, value, deadline]),
-            Query::Give { key, n } => self.call(b"give", &[key, n]),
-            Query::Take { key, n } => self.call(b"take", &[key, n]),
-            Query::Audit => self.call(b"audit", &[]),
+            } => self.asked(Verb::PutBy, &[cell, key, value, deadline]),
+            Query::Give { key, n } => self.asked(Verb::Give, &[key, n]),
+            Query::Take { key, n } => self.asked(Verb::Take, &[key, n]),
+            Query::Audit => self.asked(Verb::Audit, &[]),
         }
     }
 
