@@ -183,6 +183,26 @@ fn run_found<V: Room, J: Job<V>>(
     turn
 }
 
+// The owner runs the job of this node, which stands behind this word.
+fn serve<A: Abort, V: Room, J: Job<V>>(
+    rt: &A,
+    chain: &Chain<Parcel<V, J>>,
+    pass: &mut ChainPass<Parcel<V, J>>,
+    turn: Turn,
+    next: (u64, u64),
+) -> Turn
+    requires own { pass.old.seat.table_id ≡ chain.now.table.shared.table_id }
+    requires turn { HasTurn chain.now.table.shared.table_id.slots turn pass.old.seat.me }
+    requires ends { MayEnd (Related V.rooms J.means) 0 [] pass.old.seat.me }
+    ensures own { pass.new.seat.table_id ≡ pass.old.seat.table_id }
+    ensures turn { HasTurn chain.now.table.shared.table_id.slots result pass.new.seat.me }
+    ensures ends { MayEnd (Related V.rooms J.means) 0 [] pass.new.seat.me }
+{
+    let (turn, link) = find_job(rt, chain, pass, turn);
+    assert!(rt; (turn.node(), link) == next);
+    run_found(chain, pass, turn, link)
+}
+
 // It frees the lock.
 fn give_up<A: Abort, V: Room, J: Job<V>>(
     rt: &A,
@@ -301,5 +321,39 @@ fn an_owner_pauses_while_it_has_a_job_in_hand(rt: HostRuntime) -> Result<(), Fai
         Some(Parcel::Value(kept)) => assert!(rt; kept.ran == 2 && kept.value.balance == 10),
         _ => panic!(rt; "the value is lost"),
     }
+    Ok(())
+}
+
+#[test]
+fn three_jobs_run_along_their_links(rt: HostRuntime) -> Result<(), Fail> {
+    let account = Account {
+        balance: 0,
+        left: 3,
+    };
+    let first = Parcel::<Account, Order>::Value(Kept {
+        value: account,
+        ran: 0,
+    });
+    let (chain, mut zero) = Chain::make(rt.alloc(), 4, 3, 64, first)?;
+    let mut three = chain.split(&mut zero, 1, 1);
+    let mut two = chain.split(&mut zero, 1, 1);
+    let mut one = chain.split(&mut zero, 1, 1);
+    let turn = own(&rt, &chain, &mut zero);
+    wait_with(&rt, &chain, &mut one, Order::Take(4));
+    wait_with(&rt, &chain, &mut two, Order::Take(100));
+    wait_with(&rt, &chain, &mut three, Order::Give(10));
+
+    // The owner finds the word 5 of node 3, whose link leads to node 2, and so on down to the owner's own mark.
+    let turn = serve(&rt, &chain, &mut zero, turn, (3, 4));
+    let turn = serve(&rt, &chain, &mut zero, turn, (2, 3));
+    let turn = serve(&rt, &chain, &mut zero, turn, (1, 1));
+    give_up(&rt, &chain, &mut zero, turn);
+    let answer = answer_of(&rt, &chain, &mut three);
+    assert!(rt; answer.at == 0 && answer.result == Ok(10));
+    let answer = answer_of(&rt, &chain, &mut two);
+    assert!(rt; answer.at == 1 && answer.result == Err(Short { balance: 10 }));
+    let answer = answer_of(&rt, &chain, &mut one);
+    assert!(rt; answer.at == 2 && answer.result == Ok(6));
+    let (_value, _retired) = chain.close(zero);
     Ok(())
 }

@@ -4,7 +4,9 @@ ghost use Rattle.std.specs.Prelude.{◌≡◌, ◌≤◌};
 
 use crate::mutex::DistMutex;
 use crate::owner::{Next, Released};
-use crate::tests::{Account, Order, Refusal, an_account, settle, wait_with};
+use crate::tests::{
+    Account, Order, Refusal, an_account, find_taken, own, settle, three_clerks, wait_with,
+};
 use combine_job::job::{Job, Room};
 use combine_job::once::OnceJob;
 use combine_job::parcel::{JobAnswer, Kept};
@@ -33,17 +35,9 @@ fn three_jobs<R: Abort + AllocGlobal + Wait, V: Room, J: Job<V>>(
     requires ready { J.is_ready jobs.0 × J.is_ready jobs.1 × J.is_ready jobs.2 }
 {
     let (lock, mut zero) = DistMutex::<V, J>::make(rt.alloc(), 4, 3, combine, value)?;
-    let mut three = lock.split(&mut zero, 1, 1);
-    let mut two = lock.split(&mut zero, 1, 1);
-    let mut one = lock.split(&mut zero, 1, 1);
-    let owner = match lock.try_lock(&mut zero) {
-        Ok(owner) => owner,
-        Err(_busy) => panic!(rt; "the lock was taken"),
-    };
-    match lock.try_lock(&mut one) {
-        Ok(_owner) => panic!(rt; "two owners"),
-        Err(busy) => assert!(rt; busy.word == 1),
-    }
+    let (mut one, mut two, mut three) = three_clerks(&lock, &mut zero, 1);
+    let owner = own(rt, &lock, &mut zero);
+    find_taken(rt, &lock, &mut one);
     let (job_one, job_two, job_three) = jobs;
     wait_with(rt, &lock, &mut one, job_one);
     wait_with(rt, &lock, &mut two, job_two);

@@ -1,14 +1,14 @@
 //! The distributed lock at work: who owns it in which order, jobs of an account, and waits with a deadline.
-ghost use Rattle.std.specs.Prelude.{◌≡◌, ◌+◌, ◌≤◌, length, [], Some, None};
+ghost use Rattle.std.specs.Prelude.{◌≡◌, ◌+◌, ◌*◌, ◌≤◌, length, [], Some, None};
 ghost use Rattle.waiter_chain.specs.Calls.{IsBehind, PolledAs};
 ghost use Rattle.waiter_chain.specs.declared.view.Stage.TheVariants.{Behind};
 ghost use Rattle.combine_job.specs.declared.parcel.Parcel.TheVariants.{Posted};
 ghost use Rattle.combine_job.specs.Parcels.{Ruled};
-ghost use Rattle.dist_mutex.specs.Owners.{IsFree};
-ghost use Rattle.dist_mutex.specs.Passes.{opening_of, slots_of, dist_state, dist_view, runs_of, IsDistPassOf, IsSamePass, IsAtRest};
+ghost use Rattle.dist_mutex.specs.Owners.{IsFree, Owning};
+ghost use Rattle.dist_mutex.specs.Passes.{opening_of, slots_of, dist_state, dist_view, runs_of, due_of, HasNoRuns, IsDistPassOf, IsSamePass, IsAtRest};
 
 use crate::mutex::DistMutex;
-use crate::owner::Next;
+use crate::owner::{Next, Owner};
 use crate::pass::DistPass;
 use combine_job::combining::post;
 use combine_job::job::{Job, Room};
@@ -96,6 +96,83 @@ type Bank = DistMutex<Account, Order>;
 
 type Clerk = DistPass<Account, Order>;
 
+// A clerk takes the free lock.
+pub(crate) fn own<A: Abort, V: Room, J: Job<V>>(
+    rt: &A,
+    bank: &DistMutex<V, J>,
+    clerk: &mut DistPass<V, J>,
+) -> Owner<V>
+    requires own { IsDistPassOf bank.now clerk.old }
+    requires idle { IsAtRest clerk.old }
+    ensures own { IsDistPassOf bank.now clerk.new }
+    ensures runs { HasNoRuns clerk.new }
+    ensures quota { (dist_view clerk.new).quota ≡ (dist_view clerk.old).quota }
+    ensures owner { Owning V.rooms J.means (slots_of bank.now) (dist_state clerk.new) (due_of clerk.new) (runs_of clerk.new) result.turn result.kept }
+{
+    match bank.try_lock(clerk) {
+        Ok(owner) => owner,
+        Err(_busy) => panic!(rt; "the lock was taken"),
+    }
+}
+
+// A clerk finds that another owns the lock, and that nobody came since the owner last looked.
+pub(crate) fn find_taken<A: Abort, V: Room, J: Job<V>>(
+    rt: &A,
+    bank: &DistMutex<V, J>,
+    clerk: &mut DistPass<V, J>,
+)
+    requires own { IsDistPassOf bank.now clerk.old }
+    requires idle { IsAtRest clerk.old }
+    ensures own { IsDistPassOf bank.now clerk.new }
+    ensures idle { IsAtRest clerk.new }
+    ensures quota { (dist_view clerk.new).quota ≡ (dist_view clerk.old).quota }
+{
+    match bank.try_lock(clerk) {
+        Ok(_owner) => panic!(rt; "two owners"),
+        Err(busy) => assert!(rt; busy.word == 1),
+    }
+}
+
+// The owner gives the lock up and runs no job: the node that owns the lock then.
+fn give_up<A: Abort, V: Room, J: Job<V>>(
+    rt: &A,
+    bank: &DistMutex<V, J>,
+    clerk: &mut DistPass<V, J>,
+    owner: Owner<V>,
+) -> Option<u64>
+    requires own { IsDistPassOf bank.now clerk.old }
+    requires owner { Owning V.rooms J.means (slots_of bank.now) (dist_state clerk.old) (due_of clerk.old) (runs_of clerk.old) owner.turn owner.kept }
+    ensures own { IsDistPassOf bank.now clerk.new }
+    ensures idle { IsAtRest clerk.new }
+{
+    let released = bank.unlock(clerk, owner);
+    assert!(rt; released.combined == 0);
+    match released.next {
+        Next::Free => None,
+        Next::Plain(node) => Some(node),
+        Next::Spent(_node) => panic!(rt; "a job waits"),
+        Next::Unlinked(_node) => panic!(rt; "a job waits"),
+    }
+}
+
+// A clerk stands behind another clerk, and waits for the lock itself.
+fn wait_plain<A: Abort, V: Room, J: Job<V>>(
+    rt: &A,
+    bank: &DistMutex<V, J>,
+    clerk: &mut DistPass<V, J>,
+)
+    requires own { IsDistPassOf bank.now clerk.old }
+    requires idle { IsAtRest clerk.old }
+    ensures own { IsDistPassOf bank.now clerk.new }
+    ensures runs { runs_of clerk.new ≡ [] }
+    ensures behind { IsBehind clerk.new.pass.behind (dist_state clerk.new) }
+{
+    match bank.chain.enter(&mut clerk.pass, Kind::Plain) {
+        Entered::Owner(_turn) => panic!(rt; "the lock was free"),
+        Entered::Behind => {}
+    }
+}
+
 // A pass that waits with no job loads its own status.
 fn poll_plain<V: Room, J: Job<V>>(bank: &DistMutex<V, J>, clerk: &mut DistPass<V, J>) -> Polled
     requires own { IsDistPassOf bank.now clerk.old }
@@ -106,6 +183,61 @@ fn poll_plain<V: Room, J: Job<V>>(bank: &DistMutex<V, J>, clerk: &mut DistPass<V
     ensures answer { PolledAs (Ruled V.rooms J.means J.is_ready (opening_of bank.now)) (slots_of bank.now) clerk.old.pass.behind None (dist_state clerk.old) (dist_state clerk.new) result }
 {
     bank.chain.poll(&mut clerk.pass)
+}
+
+// It waits still.
+fn still_waits<A: Abort, V: Room, J: Job<V>>(
+    rt: &A,
+    bank: &DistMutex<V, J>,
+    clerk: &mut DistPass<V, J>,
+)
+    requires own { IsDistPassOf bank.now clerk.old }
+    requires runs { runs_of clerk.old ≡ [] }
+    requires behind { IsBehind clerk.old.pass.behind (dist_state clerk.old) }
+    ensures own { IsDistPassOf bank.now clerk.new }
+    ensures runs { runs_of clerk.new ≡ [] }
+    ensures behind { IsBehind clerk.new.pass.behind (dist_state clerk.new) }
+{
+    match poll_plain(bank, clerk) {
+        Polled::Still { word } => assert!(rt; word == 1),
+        Polled::Done => panic!(rt; "it has no job"),
+        Polled::Owner(_turn) => panic!(rt; "it was granted"),
+    }
+}
+
+// It finds that it was made the owner.
+fn owned<A: Abort, V: Room, J: Job<V>>(
+    rt: &A,
+    bank: &DistMutex<V, J>,
+    clerk: &mut DistPass<V, J>,
+) -> Owner<V>
+    requires own { IsDistPassOf bank.now clerk.old }
+    requires runs { runs_of clerk.old ≡ [] }
+    requires behind { IsBehind clerk.old.pass.behind (dist_state clerk.old) }
+    ensures own { IsDistPassOf bank.now clerk.new }
+    ensures owner { Owning V.rooms J.means (slots_of bank.now) (dist_state clerk.new) (due_of clerk.new) (runs_of clerk.new) result.turn result.kept }
+{
+    match poll_plain(bank, clerk) {
+        Polled::Still { word: _ } => panic!(rt; "it waits still"),
+        Polled::Done => panic!(rt; "it has no job"),
+        Polled::Owner(turn) => bank.take(clerk, turn),
+    }
+}
+
+// It was made the owner, and gives the lock up to the node that it answers.
+fn own_in_turn<A: Abort, V: Room, J: Job<V>>(
+    rt: &A,
+    bank: &DistMutex<V, J>,
+    clerk: &mut DistPass<V, J>,
+) -> Option<u64>
+    requires own { IsDistPassOf bank.now clerk.old }
+    requires runs { runs_of clerk.old ≡ [] }
+    requires behind { IsBehind clerk.old.pass.behind (dist_state clerk.old) }
+    ensures own { IsDistPassOf bank.now clerk.new }
+    ensures idle { IsAtRest clerk.new }
+{
+    let owner = owned(rt, bank, clerk);
+    give_up(rt, bank, clerk, owner)
 }
 
 // A clerk posts this order behind another clerk, and waits.
@@ -191,103 +323,60 @@ pub(crate) fn an_account(jobs: u64) -> Account
     }
 }
 
+// The passes of the nodes 1, 2 and 3, each with so much of the quota.
+pub(crate) fn three_clerks<V: Room, J: Job<V>>(
+    bank: &DistMutex<V, J>,
+    zero: &mut DistPass<V, J>,
+    quota: u64,
+) -> (DistPass<V, J>, DistPass<V, J>, DistPass<V, J>)
+    requires own { IsDistPassOf bank.now zero.old }
+    requires idle { IsAtRest zero.old }
+    requires fits { (3 ≤ (dist_view zero.old).spare) × (3 * quota ≤ (dist_view zero.old).quota) }
+    ensures own { IsDistPassOf bank.now zero.new × IsDistPassOf bank.now result.0 × IsDistPassOf bank.now result.1 × IsDistPassOf bank.now result.2 }
+    ensures idle { IsAtRest zero.new × IsAtRest result.0 × IsAtRest result.1 × IsAtRest result.2 }
+    ensures quota { ((dist_view result.0).quota ≡ quota) × ((dist_view result.1).quota ≡ quota) × ((dist_view result.2).quota ≡ quota) }
+{
+    let three = bank.split(zero, 1, quota);
+    let two = bank.split(zero, 1, quota);
+    let one = bank.split(zero, 1, quota);
+    (one, two, three)
+}
+
+// The lock is closed: how many jobs ran, and the balance.
+fn closed<A: Abort>(rt: &A, bank: Bank, clerk: Clerk) -> (u64, u64)
+    requires own { IsDistPassOf bank clerk }
+    requires idle { IsAtRest clerk }
+{
+    let (kept, _retired) = bank.close(clerk);
+    match kept {
+        Some(kept) => (kept.ran, kept.value.balance),
+        None => panic!(rt; "the value is lost"),
+    }
+}
+
 #[test]
 fn waiters_get_the_lock_in_turn(rt: HostRuntime) -> Result<(), Fail> {
     let (bank, mut zero) = Bank::make(rt.alloc(), 4, 0, 64, an_account(0))?;
-    let mut three = bank.split(&mut zero, 1, 0);
-    let mut two = bank.split(&mut zero, 1, 0);
-    let mut one = bank.split(&mut zero, 1, 0);
-    let owner = match bank.try_lock(&mut zero) {
-        Ok(owner) => owner,
-        Err(_busy) => panic!(rt; "the lock was taken"),
-    };
-    match bank.try_lock(&mut one) {
-        Ok(_owner) => panic!(rt; "two owners"),
-        Err(busy) => assert!(rt; busy.word == 1),
-    }
-    match bank.chain.enter(&mut one.pass, Kind::Plain) {
-        Entered::Owner(_turn) => panic!(rt; "node 1 owns the lock"),
-        Entered::Behind => {}
-    }
-    match bank.chain.enter(&mut two.pass, Kind::Plain) {
-        Entered::Owner(_turn) => panic!(rt; "node 2 owns the lock"),
-        Entered::Behind => {}
-    }
-    match bank.chain.enter(&mut three.pass, Kind::Plain) {
-        Entered::Owner(_turn) => panic!(rt; "node 3 owns the lock"),
-        Entered::Behind => {}
-    }
-    match poll_plain(&bank, &mut two) {
-        Polled::Owner(_turn) => panic!(rt; "node 2 was granted"),
-        Polled::Done => panic!(rt; "node 2 has no job"),
-        Polled::Still { word } => assert!(rt; word == 1),
-    }
-    let released = bank.unlock(&mut zero, owner);
-    assert!(rt; released.combined == 0);
-    match released.next {
-        Next::Free => panic!(rt; "freed while three nodes wait"),
-        Next::Plain(node) => assert!(rt; node == 3),
-        Next::Spent(_job) => panic!(rt; "a job waits"),
-        Next::Unlinked(_job) => panic!(rt; "a job waits"),
-    }
-    match bank.try_lock(&mut zero) {
-        Ok(_owner) => panic!(rt; "two owners"),
-        Err(busy) => assert!(rt; busy.word == 1),
-    }
-    match poll_plain(&bank, &mut three) {
-        Polled::Still { word: _ } => panic!(rt; "node 3 still waits"),
-        Polled::Done => panic!(rt; "node 3 has no job"),
-        Polled::Owner(turn) => {
-            let owner = bank.take(&mut three, turn);
-            match bank.unlock(&mut three, owner).next {
-                Next::Free => panic!(rt; "freed while two nodes wait"),
-                Next::Plain(node) => assert!(rt; node == 2),
-                Next::Spent(_job) => panic!(rt; "a job waits"),
-                Next::Unlinked(_job) => panic!(rt; "a job waits"),
-            }
-        }
-    }
-    match poll_plain(&bank, &mut two) {
-        Polled::Still { word: _ } => panic!(rt; "node 2 still waits"),
-        Polled::Done => panic!(rt; "node 2 has no job"),
-        Polled::Owner(turn) => {
-            let owner = bank.take(&mut two, turn);
-            match bank.unlock(&mut two, owner).next {
-                Next::Free => panic!(rt; "freed while a node waits"),
-                Next::Plain(node) => assert!(rt; node == 1),
-                Next::Spent(_job) => panic!(rt; "a job waits"),
-                Next::Unlinked(_job) => panic!(rt; "a job waits"),
-            }
-        }
-    }
-    match poll_plain(&bank, &mut one) {
-        Polled::Still { word: _ } => panic!(rt; "node 1 still waits"),
-        Polled::Done => panic!(rt; "node 1 has no job"),
-        Polled::Owner(turn) => {
-            let owner = bank.take(&mut one, turn);
-            match bank.unlock(&mut one, owner).next {
-                Next::Free => {}
-                Next::Plain(_node) => panic!(rt; "somebody else waits"),
-                Next::Spent(_job) => panic!(rt; "a job waits"),
-                Next::Unlinked(_job) => panic!(rt; "a job waits"),
-            }
-        }
-    }
-    match bank.try_lock(&mut zero) {
-        Err(_busy) => panic!(rt; "the lock is not free"),
-        Ok(owner) => {
-            let _released = bank.unlock(&mut zero, owner);
-        }
-    }
+    let (mut one, mut two, mut three) = three_clerks(&bank, &mut zero, 0);
+    let owner = own(&rt, &bank, &mut zero);
+    find_taken(&rt, &bank, &mut one);
+    wait_plain(&rt, &bank, &mut one);
+    wait_plain(&rt, &bank, &mut two);
+    wait_plain(&rt, &bank, &mut three);
+    still_waits(&rt, &bank, &mut two);
+
+    // The last that came is the first that owns.
+    assert!(rt; give_up(&rt, &bank, &mut zero, owner) == Some(3));
+    find_taken(&rt, &bank, &mut zero);
+    assert!(rt; own_in_turn(&rt, &bank, &mut three) == Some(2));
+    assert!(rt; own_in_turn(&rt, &bank, &mut two) == Some(1));
+    assert!(rt; own_in_turn(&rt, &bank, &mut one).is_none());
+    let owner = own(&rt, &bank, &mut zero);
+    assert!(rt; give_up(&rt, &bank, &mut zero, owner).is_none());
     bank.join(&mut zero, one);
     bank.join(&mut zero, two);
     bank.join(&mut zero, three);
-    let (kept, retired) = bank.close(zero);
-    assert!(rt; retired.combine() == 64);
-    match kept {
-        Some(kept) => assert!(rt; kept.ran == 0 && kept.value.balance == 0),
-        None => panic!(rt; "the value is lost"),
-    }
+    assert!(rt; closed(&rt, bank, zero) == (0, 0));
     Ok(())
 }
 
@@ -296,10 +385,7 @@ fn a_clerk_that_links_late_runs_its_own_order(rt: HostRuntime) -> Result<(), Fai
     let (bank, mut zero) = Bank::make(rt.alloc(), 4, 1, 64, an_account(1))?;
     let others = bank.split(&mut zero, 2, 0);
     let mut one = bank.split(&mut zero, 1, 1);
-    let owner = match bank.try_lock(&mut zero) {
-        Ok(owner) => owner,
-        Err(_busy) => panic!(rt; "the lock was taken"),
-    };
+    let owner = own(&rt, &bank, &mut zero);
     enter_with(&rt, &bank, &mut one, Order::Give(10));
     let released = bank.unlock(&mut zero, owner);
     match released.next {
@@ -311,11 +397,7 @@ fn a_clerk_that_links_late_runs_its_own_order(rt: HostRuntime) -> Result<(), Fai
     assert!(rt; answer.at == 0 && answer.result == Ok(10));
     bank.join(&mut zero, one);
     bank.join(&mut zero, others);
-    let (kept, _retired) = bank.close(zero);
-    match kept {
-        Some(kept) => assert!(rt; kept.ran == 1 && kept.value.balance == 10),
-        None => panic!(rt; "the value is lost"),
-    }
+    assert!(rt; closed(&rt, bank, zero) == (1, 10));
     Ok(())
 }
 

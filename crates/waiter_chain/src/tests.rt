@@ -1,15 +1,16 @@
 //! The words of a chain of four nodes, step by step.
-ghost use Rattle.std.specs.Prelude.{◌≡◌, None};
-ghost use Rattle.waiter_chain.specs.Calls.{Won, IsIdle, IsBehind, PolledAs};
+ghost use Rattle.std.specs.Prelude.{◌≡◌, ◌<◌, ◌≤◌, None};
+ghost use Rattle.waiter_chain.specs.Calls.{Won, IsIdle, IsBehind, WaitsBehind, PolledAs};
 ghost use Rattle.waiter_chain.specs.declared.view.StepEntry.{StepEntry};
 
 use crate::chain::{Chain, ChainPass};
 use crate::freight::Freight;
 use crate::runs::OwnRuns;
 use crate::turn::{Entered, Follow, Kind, Polled, Turn};
+use std::process::Abort;
 use std::test::Fail;
 
-/// A freight with no jobs: whatever stands in the slots is lawful.
+/// A freight whose jobs are posted and never run: whatever stands in the slots is lawful.
 #[derive(Drop)]
 struct Mark {
     sign: u64,
@@ -20,7 +21,7 @@ impl Freight for Mark {
 
     ghost admits = { λ v q. Unit {0} };
 
-    ghost is_job = { λ v. ⊥ };
+    ghost is_job = { λ v. Unit {0} };
 
     ghost rule = { λ o g. Unit {0} };
 
@@ -67,6 +68,35 @@ fn poll_plain(chain: &Chain<Mark>, pass: &mut ChainPass<Mark>) -> Polled
 
 fn central(chain: &Chain<Mark>) -> u64 {
     chain.table.shared.peek(0)
+}
+
+fn status(chain: &Chain<Mark>, node: u64) -> u64
+    requires { node < chain.now.nodes }
+{
+    chain.table.shared.peek(1 + 2 * node as usize)
+}
+
+fn link(chain: &Chain<Mark>, node: u64) -> u64
+    requires { node < chain.now.nodes }
+{
+    chain.table.shared.peek(2 + 2 * node as usize)
+}
+
+// A pass posts a job behind another pass, and has not said yet whom it is behind.
+fn enter_with_job<A: Abort>(rt: &A, chain: &Chain<Mark>, pass: &mut ChainPass<Mark>)
+    requires own { pass.old.seat.table_id ≡ chain.now.table.shared.table_id }
+    requires idle { IsIdle pass.old.seat.me }
+    requires quota { 1 ≤ pass.old.seat.me.0.quota }
+    ensures own { pass.new.seat.table_id ≡ pass.old.seat.table_id }
+    ensures waits { WaitsBehind pass.new.behind pass.new.seat.me }
+{
+    let slot = 1 + 2 * pass.number();
+    chain.hold(pass);
+    let _empty = chain.move_slot(pass, slot, Some(Mark { sign: 0 }));
+    match chain.enter(pass, Kind::WithJob) {
+        Entered::Owner(_turn) => panic!(rt; "the lock was free"),
+        Entered::Behind => {}
+    }
 }
 
 #[test]
@@ -150,6 +180,37 @@ fn waiters_are_granted_in_turn(rt: HostRuntime) -> Result<(), Fail> {
         Some(mark) => assert!(rt; mark.sign == 7),
         None => panic!(rt; "the value is lost"),
     }
+    Ok(())
+}
+
+#[test]
+fn three_jobs_stand_behind_each_other(rt: HostRuntime) -> Result<(), Fail> {
+    let (chain, mut zero) = Chain::make(rt.alloc(), 4, 3, 0, Mark { sign: 7 })?;
+    let mut three = chain.split(&mut zero, 1, 1);
+    let mut two = chain.split(&mut zero, 1, 1);
+    let mut one = chain.split(&mut zero, 1, 1);
+    let turn = match chain.try_in(&mut zero) {
+        Ok(turn) => turn,
+        Err(_busy) => panic!(rt; "the lock was taken"),
+    };
+    assert!(rt; central(&chain) == 1);
+
+    // Each node swaps its number + 2 into the central word, and its link is the word that its swap found.
+    enter_with_job(&rt, &chain, &mut one);
+    assert!(rt; central(&chain) == 3 && status(&chain, 1) == 2 && link(&chain, 1) == 0);
+    chain.link(&mut one);
+    enter_with_job(&rt, &chain, &mut two);
+    assert!(rt; central(&chain) == 4 && status(&chain, 2) == 2 && link(&chain, 2) == 0);
+    chain.link(&mut two);
+    enter_with_job(&rt, &chain, &mut three);
+    assert!(rt; central(&chain) == 5 && status(&chain, 3) == 2 && link(&chain, 3) == 0);
+    chain.link(&mut three);
+    assert!(rt; link(&chain, 1) == 1 && link(&chain, 2) == 3 && link(&chain, 3) == 4);
+
+    // The owner takes the chain from the word 5 down to its own mark, 1.
+    assert!(rt; pass_on(&chain, &mut zero, turn) == Some(3));
+    assert!(rt; central(&chain) == 1 && status(&chain, 3) == 5 && link(&chain, 3) == 4);
+    let (_value, _retired) = chain.close(zero);
     Ok(())
 }
 
