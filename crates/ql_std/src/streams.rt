@@ -116,17 +116,19 @@ impl<W: Write> Sink for StdSink<W> {
     }
 }
 
-// One write, tried again where a signal interrupts it.
-fn write_uninterrupted<W: Write>(writer: &mut W, piece: &[u8]) -> io::Result<usize>
+// One write, tried again where a signal interrupts it. Its answer is short: an `io::Error` is dear to hand on.
+fn write_uninterrupted<W: Write>(writer: &mut W, piece: &[u8]) -> Result<usize, Failed>
     ensures { IfOk result (λ n. n ≤ length piece.now) }
 {
     for _ in 1..u64::MAX {
         match writer.write(piece) {
+            Ok(count) => return Ok(count),
             Err(error) if error.kind() == ErrorKind::Interrupted => {}
-            answer => return answer,
+            Err(_) => return Err(Failed),
         }
     }
-    writer.write(piece)
+    // No run comes here: it would have been interrupted as often as a u64 counts.
+    Err(Failed)
 }
 
 // One flush, tried again where a signal interrupts it.

@@ -95,8 +95,20 @@ impl Line {
         self.digits(n);
     }
 
-    // Adds a number as it is. Its digits are written where they stay.
+    // Adds a number as it is.
     fn digits(&mut self, n: u64)
+        requires { length self.old < 235 }
+        ensures { self.new ≡ self.old ++ decimal n }
+    {
+        if n < 10 {
+            self.append(&[b'0' + n as u8]);
+        } else {
+            self.many_digits(n);
+        }
+    }
+
+    // Adds a number of any length. Its digits are written where they stay.
+    fn many_digits(&mut self, n: u64)
         requires { length self.old < 235 }
         ensures { self.new ≡ self.old ++ decimal n }
     {

@@ -7,7 +7,8 @@ ghost use Rattle.query_text.specs.Reads.{Reads, Says};
 
 use crate::Callers;
 use crate::number::numbers;
-use crate::words::spelled_words;
+use crate::words::spell_words;
+use arrayvec::ArrayVec;
 use ql_base::NoMemory;
 use query_rules::{Cause, MOST_CALLERS, MOST_CELLS, Verb};
 
@@ -30,8 +31,9 @@ impl From<NoMemory> for LineFault {
 pub fn first_line(line: &[u8]) -> Result<u64, Cause>
     ensures { Says (λ cells. record { cells = cells; callers = [] }) result (grammar.spelled_line grammar.cells_line line.now) }
 {
-    match spelled_words(line) {
-        Ok(words) => cells_line(&words),
+    let mut words = ArrayVec::new();
+    match spell_words(line, &mut words) {
+        Ok(()) => cells_line(&words),
         Err(cause) => Err(cause),
     }
 }
@@ -124,8 +126,9 @@ pub fn later_line(cells: u64, callers: &mut Callers, line: &[u8]) -> Result<(), 
     ensures { Reads (λ _. record { cells = cells; callers = callers.new }) result
         (grammar.later_line (record { cells = cells; callers = callers.old }) line.now) }
 {
-    match spelled_words(line) {
-        Ok(words) => later_words(cells, callers, &words),
+    let mut words = ArrayVec::new();
+    match spell_words(line, &mut words) {
+        Ok(()) => later_words(cells, callers, &words),
         Err(cause) => Err(LineFault::Bad(cause)),
     }
 }

@@ -1,5 +1,5 @@
 //! Lines, and the words of a line.
-ghost use Rattle.std.specs.Prelude.{◌≡◌, ◌∷◌, ◌<◌, ◌≤◌, ℕ, length, map, take, slice_index, true, false, Some, None, IfSome, IfNone, IfOk, IfErr, OnOk};
+ghost use Rattle.std.specs.Prelude.{◌≡◌, [], ◌∷◌, ◌<◌, ◌≤◌, ℕ, length, map, take, slice_index, true, false, Some, None, IfSome, IfNone, IfErr, OnOk};
 ghost use Rattle.std.specs.Option.{option_copied};
 ghost use Rattle.query_rules.specs.Words.{lines_of, words_of};
 ghost use Rattle.query_rules.specs.Grammar as grammar;
@@ -76,19 +76,22 @@ fn take_word(text: &[u8]) -> Option<(&[u8], Option<&[u8]>)>
     }
 }
 
-/// The first words of a line, at most six, or what is wrong with its bytes and spaces. A line of at most six words is
-/// gone over once.
-pub fn spelled_words(line: &[u8]) -> Result<ArrayVec<&[u8], ENOUGH_WORDS>, Cause>
-    ensures words { IfOk result (λ words. map (λ w. w.now) words.items ≡ take 6 (words_of line.now)) }
+/// Puts the first words of a line, at most six, into an empty list, or says what is wrong with its bytes and spaces. A
+/// line of at most six words is gone over once.
+pub fn spell_words<'a>(
+    line: &'a [u8],
+    words: &mut ArrayVec<&'a [u8], ENOUGH_WORDS>,
+) -> Result<(), Cause>
+    requires { words.old.items ≡ [] }
+    ensures words { OnOk result (map (λ w. w.now) words.new.items ≡ take 6 (words_of line.now)) }
     ensures spelled { OnOk result (spelling.fault_in line.now ≡ None) }
     ensures fault { IfErr result (λ cause. spelling.fault_in line.now ≡ Some cause) }
 {
-    let mut words = ArrayVec::new();
     let mut rest = Some(line);
     while let Some(text) = rest {
         if words.is_full() {
             return match fault_in(text) {
-                None => Ok(words),
+                None => Ok(()),
                 Some(cause) => Err(cause),
             };
         }
@@ -101,7 +104,7 @@ pub fn spelled_words(line: &[u8]) -> Result<ArrayVec<&[u8], ENOUGH_WORDS>, Cause
         words.push(word);
         rest = after;
     }
-    Ok(words)
+    Ok(())
 }
 
 // What is wrong with the bytes and spaces of a text.

@@ -3,7 +3,7 @@ use Rattle.std.specs.Option.{option_copied, option_map_or}
 use Rattle.query_rules.specs.Words.{words_of}
 use Rattle.query_text.specs.Reads.{rest_words}
 use Rattle.query_text.specs.Spelling.{fault_in, rest_fault}
-use Rattle.query_text.proofs.words.spelled_words.Given as goal
+use Rattle.query_text.proofs.words.spell_words.Given as goal
 
 -- the words so far, and those of what is left, which has the faults of the line
 abbrev pub invariant-loop-rest : goal.invariant-loop-rest

@@ -1,7 +1,7 @@
 use Rattle.std.proofs.Common.{arith, ◌≡◌, ◌∙◌, length}
 use Rattle.std.proofs.lemmas.List.{length-map}
 use Rattle.query_text.proofs.Lists.{six_front}
-use Rattle.query_text.proofs.words.spelled_words.Goals as goal
+use Rattle.query_text.proofs.words.spell_words.Goals as goal
 
 pub returns-in-None-clause-words : goal.returns-in-None-clause-words
 returns-in-None-clause-words c =
