@@ -361,23 +361,55 @@ pub(crate) fn closed<A: Abort, V: Room, J: Job<V>>(
     }
 }
 
+// Three clerks come behind the owner, the last one last, and wait for the lock itself.
+fn line_up<A: Abort, V: Room, J: Job<V>>(
+    rt: &A,
+    bank: &DistMutex<V, J>,
+    one: &mut DistPass<V, J>,
+    two: &mut DistPass<V, J>,
+    three: &mut DistPass<V, J>,
+)
+    requires own { IsDistPassOf bank.now one.old × IsDistPassOf bank.now two.old × IsDistPassOf bank.now three.old }
+    requires idle { IsAtRest one.old × IsAtRest two.old × IsAtRest three.old }
+    ensures own { IsDistPassOf bank.now one.new × IsDistPassOf bank.now two.new × IsDistPassOf bank.now three.new }
+    ensures runs { (runs_of one.new ≡ []) × (runs_of two.new ≡ []) × (runs_of three.new ≡ []) }
+    ensures behind { IsBehind one.new.pass.behind (dist_state one.new) × IsBehind two.new.pass.behind (dist_state two.new) × IsBehind three.new.pass.behind (dist_state three.new) }
+{
+    wait_plain(rt, bank, one);
+    wait_plain(rt, bank, two);
+    wait_plain(rt, bank, three);
+    still_waits(rt, bank, two);
+}
+
+// The last that came is the first that owns the lock, and so on.
+fn own_one_after_the_other<A: Abort, V: Room, J: Job<V>>(
+    rt: &A,
+    bank: &DistMutex<V, J>,
+    one: &mut DistPass<V, J>,
+    two: &mut DistPass<V, J>,
+    three: &mut DistPass<V, J>,
+)
+    requires own { IsDistPassOf bank.now one.old × IsDistPassOf bank.now two.old × IsDistPassOf bank.now three.old }
+    requires runs { (runs_of one.old ≡ []) × (runs_of two.old ≡ []) × (runs_of three.old ≡ []) }
+    requires behind { IsBehind one.old.pass.behind (dist_state one.old) × IsBehind two.old.pass.behind (dist_state two.old) × IsBehind three.old.pass.behind (dist_state three.old) }
+    ensures own { IsDistPassOf bank.now one.new × IsDistPassOf bank.now two.new × IsDistPassOf bank.now three.new }
+    ensures idle { IsAtRest one.new × IsAtRest two.new × IsAtRest three.new }
+{
+    assert!(rt; own_in_turn(rt, bank, three) == Some(2));
+    assert!(rt; own_in_turn(rt, bank, two) == Some(1));
+    assert!(rt; own_in_turn(rt, bank, one).is_none());
+}
+
 #[test]
 fn waiters_get_the_lock_in_turn(rt: HostRuntime) -> Result<(), Fail> {
     let (bank, mut zero) = Bank::make(rt.alloc(), 4, 0, 64, an_account(0))?;
     let (mut one, mut two, mut three) = three_clerks(&bank, &mut zero, 0);
     let owner = own(&rt, &bank, &mut zero);
     find_taken(&rt, &bank, &mut one);
-    wait_plain(&rt, &bank, &mut one);
-    wait_plain(&rt, &bank, &mut two);
-    wait_plain(&rt, &bank, &mut three);
-    still_waits(&rt, &bank, &mut two);
-
-    // The last that came is the first that owns.
+    line_up(&rt, &bank, &mut one, &mut two, &mut three);
     assert!(rt; give_up(&rt, &bank, &mut zero, owner) == Some(3));
     find_taken(&rt, &bank, &mut zero);
-    assert!(rt; own_in_turn(&rt, &bank, &mut three) == Some(2));
-    assert!(rt; own_in_turn(&rt, &bank, &mut two) == Some(1));
-    assert!(rt; own_in_turn(&rt, &bank, &mut one).is_none());
+    own_one_after_the_other(&rt, &bank, &mut one, &mut two, &mut three);
     let owner = own(&rt, &bank, &mut zero);
     assert!(rt; give_up(&rt, &bank, &mut zero, owner).is_none());
     bank.join(&mut zero, one);
