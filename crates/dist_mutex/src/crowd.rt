@@ -1,13 +1,15 @@
 //! Many threads at one lock, each with a pass of its own. Afterwards one thread replays all jobs on a plain number,
 //! position by position, and each answer must be the one that it was given.
-ghost use Rattle.std.specs.Prelude.{◌≡◌, ◌+◌, ◌≤◌, length, IfOk};
+ghost use Rattle.std.specs.Prelude.{◌≡◌, ◌+◌, ◌*◌, ◌≤◌, length, IfOk};
 ghost use Rattle.std.specs.Thread.{IsSync};
 ghost use Rattle.dist_mutex.specs.Passes.{dist_view, IsDistPassOf, IsAtRest};
 
 use crate::mutex::DistMutex;
 use crate::pass::DistPass;
+use crate::tests::closed;
 use combine_job::job::{Job, Room};
 use std::alloc::AllocError;
+use std::process::Abort;
 use std::sync::Wait;
 use std::test::Fail;
 use std::thread::{Threads, join_mut};
@@ -163,10 +165,76 @@ fn serve_four<R: Threads + Wait + Sync>(
     );
 }
 
+/// Four clerks, each of whom works in a thread of its own.
+#[derive(Drop)]
+struct Team {
+    one: Clerk,
+    two: Clerk,
+    three: Clerk,
+    four: Clerk,
+}
+
+fn serve_team<R: Threads + Wait + Sync>(rt: &R, shop: &Shop, team: &mut Team)
+    requires own { IsDistPassOf shop.now team.old.one.hand × IsDistPassOf shop.now team.old.two.hand × IsDistPassOf shop.now team.old.three.hand × IsDistPassOf shop.now team.old.four.hand }
+    requires idle { IsAtRest team.old.one.hand × IsAtRest team.old.two.hand × IsAtRest team.old.three.hand × IsAtRest team.old.four.hand }
+    requires quota { (length team.old.one.notes.items ≤ (dist_view team.old.one.hand).quota) × (length team.old.two.notes.items ≤ (dist_view team.old.two.hand).quota) }
+    requires quota_too { (length team.old.three.notes.items ≤ (dist_view team.old.three.hand).quota) × (length team.old.four.notes.items ≤ (dist_view team.old.four.hand).quota) }
+    ensures own { IsDistPassOf shop.now team.new.one.hand × IsDistPassOf shop.now team.new.two.hand × IsDistPassOf shop.now team.new.three.hand × IsDistPassOf shop.now team.new.four.hand }
+    ensures idle { IsAtRest team.new.one.hand × IsAtRest team.new.two.hand × IsAtRest team.new.three.hand × IsAtRest team.new.four.hand }
+{
+    serve_four(
+        rt,
+        shop,
+        &mut team.one,
+        &mut team.two,
+        &mut team.three,
+        &mut team.four,
+    );
+}
+
+fn serve_teams<R: Threads + Wait + Sync>(rt: &R, shop: &Shop, early: &mut Team, late: &mut Team)
+    requires early_own { IsDistPassOf shop.now early.old.one.hand × IsDistPassOf shop.now early.old.two.hand × IsDistPassOf shop.now early.old.three.hand × IsDistPassOf shop.now early.old.four.hand }
+    requires early_idle { IsAtRest early.old.one.hand × IsAtRest early.old.two.hand × IsAtRest early.old.three.hand × IsAtRest early.old.four.hand }
+    requires early_quota { (length early.old.one.notes.items ≤ (dist_view early.old.one.hand).quota) × (length early.old.two.notes.items ≤ (dist_view early.old.two.hand).quota) × (length early.old.three.notes.items ≤ (dist_view early.old.three.hand).quota) × (length early.old.four.notes.items ≤ (dist_view early.old.four.hand).quota) }
+    requires late_own { IsDistPassOf shop.now late.old.one.hand × IsDistPassOf shop.now late.old.two.hand × IsDistPassOf shop.now late.old.three.hand × IsDistPassOf shop.now late.old.four.hand }
+    requires late_idle { IsAtRest late.old.one.hand × IsAtRest late.old.two.hand × IsAtRest late.old.three.hand × IsAtRest late.old.four.hand }
+    requires late_quota { (length late.old.one.notes.items ≤ (dist_view late.old.one.hand).quota) × (length late.old.two.notes.items ≤ (dist_view late.old.two.hand).quota) × (length late.old.three.notes.items ≤ (dist_view late.old.three.hand).quota) × (length late.old.four.notes.items ≤ (dist_view late.old.four.hand).quota) }
+    ensures early_own { IsDistPassOf shop.now early.new.one.hand × IsDistPassOf shop.now early.new.two.hand × IsDistPassOf shop.now early.new.three.hand × IsDistPassOf shop.now early.new.four.hand }
+    ensures early_idle { IsAtRest early.new.one.hand × IsAtRest early.new.two.hand × IsAtRest early.new.three.hand × IsAtRest early.new.four.hand }
+    ensures late_own { IsDistPassOf shop.now late.new.one.hand × IsDistPassOf shop.now late.new.two.hand × IsDistPassOf shop.now late.new.three.hand × IsDistPassOf shop.now late.new.four.hand }
+    ensures late_idle { IsAtRest late.new.one.hand × IsAtRest late.new.two.hand × IsAtRest late.new.three.hand × IsAtRest late.new.four.hand }
+{
+    let _done = join_mut(
+        rt,
+        &mut ||
+            requires { IsSync R.row × IsDistPassOf shop.now early.now.one.hand × IsDistPassOf shop.now early.now.two.hand × IsDistPassOf shop.now early.now.three.hand × IsDistPassOf shop.now early.now.four.hand × IsAtRest early.now.one.hand × IsAtRest early.now.two.hand × IsAtRest early.now.three.hand × IsAtRest early.now.four.hand × (length early.now.one.notes.items ≤ (dist_view early.now.one.hand).quota) × (length early.now.two.notes.items ≤ (dist_view early.now.two.hand).quota) × (length early.now.three.notes.items ≤ (dist_view early.now.three.hand).quota) × (length early.now.four.notes.items ≤ (dist_view early.now.four.hand).quota) }
+            ensures { IsDistPassOf shop.entry.now early.exit.now.one.hand × IsDistPassOf shop.entry.now early.exit.now.two.hand × IsDistPassOf shop.entry.now early.exit.now.three.hand × IsDistPassOf shop.entry.now early.exit.now.four.hand × IsAtRest early.exit.now.one.hand × IsAtRest early.exit.now.two.hand × IsAtRest early.exit.now.three.hand × IsAtRest early.exit.now.four.hand }
+        { serve_team(rt, shop, early) },
+        &mut ||
+            requires { IsSync R.row × IsDistPassOf shop.now late.now.one.hand × IsDistPassOf shop.now late.now.two.hand × IsDistPassOf shop.now late.now.three.hand × IsDistPassOf shop.now late.now.four.hand × IsAtRest late.now.one.hand × IsAtRest late.now.two.hand × IsAtRest late.now.three.hand × IsAtRest late.now.four.hand × (length late.now.one.notes.items ≤ (dist_view late.now.one.hand).quota) × (length late.now.two.notes.items ≤ (dist_view late.now.two.hand).quota) × (length late.now.three.notes.items ≤ (dist_view late.now.three.hand).quota) × (length late.now.four.notes.items ≤ (dist_view late.now.four.hand).quota) }
+            ensures { IsDistPassOf shop.entry.now late.exit.now.one.hand × IsDistPassOf shop.entry.now late.exit.now.two.hand × IsDistPassOf shop.entry.now late.exit.now.three.hand × IsDistPassOf shop.entry.now late.exit.now.four.hand × IsAtRest late.exit.now.one.hand × IsAtRest late.exit.now.two.hand × IsAtRest late.exit.now.three.hand × IsAtRest late.exit.now.four.hand }
+        { serve_team(rt, shop, late) },
+    );
+}
+
 fn notes<R: AllocGlobal>(rt: &R, count: u64) -> Result<Vec<Note>, AllocError>
     ensures { IfOk result (λ v. length v.items ≡ count) }
 {
     vec![in rt.alloc(); no_note(); count as usize]
+}
+
+/// The notes of four clerks.
+type FourNotes = (Vec<Note>, Vec<Note>, Vec<Note>, Vec<Note>);
+
+fn four_notes<R: AllocGlobal>(rt: &R, count: u64) -> Result<FourNotes, AllocError>
+    ensures { IfOk result (λ v. (length v.0.items ≡ count) × (length v.1.items ≡ count) × (length v.2.items ≡ count) × (length v.3.items ≡ count)) }
+{
+    Ok((
+        notes(rt, count)?,
+        notes(rt, count)?,
+        notes(rt, count)?,
+        notes(rt, count)?,
+    ))
 }
 
 // A clerk gets a pass of its own.
@@ -181,6 +249,27 @@ fn hire(shop: &Shop, hand: &mut Hand, notes: Vec<Note>) -> Clerk
 {
     let hand = shop.split(hand, 1, notes.len() as u64);
     Clerk { hand, notes }
+}
+
+// Four clerks get passes of their own, and so many notes each.
+fn hire_team(shop: &Shop, hand: &mut Hand, notes: FourNotes, count: u64) -> Team
+    requires own { IsDistPassOf shop.now hand.old }
+    requires idle { IsAtRest hand.old }
+    requires notes { (length notes.0.items ≡ count) × (length notes.1.items ≡ count) × (length notes.2.items ≡ count) × (length notes.3.items ≡ count) }
+    requires fits { (4 ≤ (dist_view hand.old).spare) × (4 * count ≤ (dist_view hand.old).quota) }
+    ensures own { IsDistPassOf shop.now hand.new × IsDistPassOf shop.now result.one.hand × IsDistPassOf shop.now result.two.hand × IsDistPassOf shop.now result.three.hand × IsDistPassOf shop.now result.four.hand }
+    ensures idle { IsAtRest hand.new × IsAtRest result.one.hand × IsAtRest result.two.hand × IsAtRest result.three.hand × IsAtRest result.four.hand }
+    ensures left { ((dist_view hand.new).spare + 4 ≡ (dist_view hand.old).spare) × ((dist_view hand.new).quota + 4 * count ≡ (dist_view hand.old).quota) }
+    ensures quota { (length result.one.notes.items ≤ (dist_view result.one.hand).quota) × (length result.two.notes.items ≤ (dist_view result.two.hand).quota) }
+    ensures quota_too { (length result.three.notes.items ≤ (dist_view result.three.hand).quota) × (length result.four.notes.items ≤ (dist_view result.four.hand).quota) }
+{
+    let (first, second, third, fourth) = notes;
+    Team {
+        one: hire(shop, hand, first),
+        two: hire(shop, hand, second),
+        three: hire(shop, hand, third),
+        four: hire(shop, hand, fourth),
+    }
 }
 
 // Each note goes to the position of its answer. Whether these positions rise.
@@ -207,6 +296,26 @@ fn dismiss(shop: &Shop, hand: &mut Hand, clerk: Clerk, table: &mut Vec<Note>) ->
     let rises = gather(table, clerk.notes.as_slice());
     shop.join(hand, clerk.hand);
     rises
+}
+
+// The same for four clerks. Whether the positions of each rise.
+fn dismiss_team(shop: &Shop, hand: &mut Hand, team: Team, table: &mut Vec<Note>) -> bool
+    requires own { IsDistPassOf shop.now hand.old × IsDistPassOf shop.now team.one.hand × IsDistPassOf shop.now team.two.hand × IsDistPassOf shop.now team.three.hand × IsDistPassOf shop.now team.four.hand }
+    requires idle { IsAtRest hand.old × IsAtRest team.one.hand × IsAtRest team.two.hand × IsAtRest team.three.hand × IsAtRest team.four.hand }
+    ensures own { IsDistPassOf shop.now hand.new }
+    ensures idle { IsAtRest hand.new }
+{
+    let Team {
+        one,
+        two,
+        three,
+        four,
+    } = team;
+    let first = dismiss(shop, hand, one, table);
+    let second = dismiss(shop, hand, two, table);
+    let third = dismiss(shop, hand, three, table);
+    let fourth = dismiss(shop, hand, four, table);
+    first && second && third && fourth
 }
 
 // The balance at the end, where each position has a job whose answer is the one that a plain number gives.
@@ -240,70 +349,38 @@ fn a_till(jobs: u64) -> Till
     }
 }
 
+// The lock is closed. Each position of the table has the answer that a plain number gives, and so the balance is right.
+fn settle_up<A: Abort>(rt: &A, shop: Shop, hand: Hand, table: &[Note])
+    requires own { IsDistPassOf shop hand }
+    requires idle { IsAtRest hand }
+{
+    let kept = closed(rt, shop, hand);
+    assert!(rt; kept.ran == table.len() as u64 && kept.value.left == 0);
+    assert!(rt; replay(table, 100) == Some(kept.value.balance));
+}
+
 #[test]
 fn four_threads_change_money(rt: HostRuntime) -> Result<(), Fail> {
     let mut table = notes(&rt, 1200)?;
-    let (own, first, second) = (notes(&rt, 300)?, notes(&rt, 300)?, notes(&rt, 300)?);
-    let third = notes(&rt, 300)?;
-    let (shop, mut hand) = Shop::make(rt.alloc(), 4, 1200, 8, a_till(1200))?;
-    let mut one = hire(&shop, &mut hand, first);
-    let mut two = hire(&shop, &mut hand, second);
-    let mut three = hire(&shop, &mut hand, third);
-    let mut zero = Clerk { hand, notes: own };
-    serve_four(&rt, &shop, &mut zero, &mut one, &mut two, &mut three);
-    let Clerk { mut hand, notes } = zero;
-    assert!(rt; gather(&mut table, notes.as_slice()));
-    assert!(rt; dismiss(&shop, &mut hand, one, &mut table));
-    assert!(rt; dismiss(&shop, &mut hand, two, &mut table));
-    assert!(rt; dismiss(&shop, &mut hand, three, &mut table));
-    let (kept, retired) = shop.close(hand);
-    assert!(rt; retired.combine() == 8);
-    match kept {
-        None => panic!(rt; "the value is lost"),
-        Some(kept) => {
-            assert!(rt; kept.ran == 1200 && kept.value.left == 0);
-            assert!(rt; replay(table.as_slice(), 100) == Some(kept.value.balance));
-        }
-    }
+    let own = four_notes(&rt, 300)?;
+    let (shop, mut hand) = Shop::make(rt.alloc(), 5, 1200, 8, a_till(1200))?;
+    let mut team = hire_team(&shop, &mut hand, own, 300);
+    serve_team(&rt, &shop, &mut team);
+    assert!(rt; dismiss_team(&shop, &mut hand, team, &mut table));
+    settle_up(&rt, shop, hand, table.as_slice());
     Ok(())
 }
 
 #[test]
 fn eight_threads_change_money(rt: HostRuntime) -> Result<(), Fail> {
     let mut table = notes(&rt, 800)?;
-    let (own, first, second) = (notes(&rt, 100)?, notes(&rt, 100)?, notes(&rt, 100)?);
-    let (third, fourth, fifth) = (notes(&rt, 100)?, notes(&rt, 100)?, notes(&rt, 100)?);
-    let (sixth, seventh) = (notes(&rt, 100)?, notes(&rt, 100)?);
-    let (shop, mut hand) = Shop::make(rt.alloc(), 8, 800, 2, a_till(800))?;
-    let mut one = hire(&shop, &mut hand, first);
-    let mut two = hire(&shop, &mut hand, second);
-    let mut three = hire(&shop, &mut hand, third);
-    let mut four = hire(&shop, &mut hand, fourth);
-    let mut five = hire(&shop, &mut hand, fifth);
-    let mut six = hire(&shop, &mut hand, sixth);
-    let mut seven = hire(&shop, &mut hand, seventh);
-    let mut zero = Clerk { hand, notes: own };
-    let _done = join_mut(
-        &rt,
-        &mut || serve_four(&rt, &shop, &mut zero, &mut one, &mut two, &mut three),
-        &mut || serve_four(&rt, &shop, &mut four, &mut five, &mut six, &mut seven),
-    );
-    let Clerk { mut hand, notes } = zero;
-    assert!(rt; gather(&mut table, notes.as_slice()));
-    assert!(rt; dismiss(&shop, &mut hand, one, &mut table));
-    assert!(rt; dismiss(&shop, &mut hand, two, &mut table));
-    assert!(rt; dismiss(&shop, &mut hand, three, &mut table));
-    assert!(rt; dismiss(&shop, &mut hand, four, &mut table));
-    assert!(rt; dismiss(&shop, &mut hand, five, &mut table));
-    assert!(rt; dismiss(&shop, &mut hand, six, &mut table));
-    assert!(rt; dismiss(&shop, &mut hand, seven, &mut table));
-    let (kept, _retired) = shop.close(hand);
-    match kept {
-        None => panic!(rt; "the value is lost"),
-        Some(kept) => {
-            assert!(rt; kept.ran == 800 && kept.value.left == 0);
-            assert!(rt; replay(table.as_slice(), 100) == Some(kept.value.balance));
-        }
-    }
+    let (first, second) = (four_notes(&rt, 100)?, four_notes(&rt, 100)?);
+    let (shop, mut hand) = Shop::make(rt.alloc(), 9, 800, 2, a_till(800))?;
+    let mut early = hire_team(&shop, &mut hand, first, 100);
+    let mut late = hire_team(&shop, &mut hand, second, 100);
+    serve_teams(&rt, &shop, &mut early, &mut late);
+    assert!(rt; dismiss_team(&shop, &mut hand, early, &mut table));
+    assert!(rt; dismiss_team(&shop, &mut hand, late, &mut table));
+    settle_up(&rt, shop, hand, table.as_slice());
     Ok(())
 }

@@ -5,7 +5,7 @@ ghost use Rattle.std.specs.Prelude.{◌≡◌, ◌≤◌};
 use crate::mutex::DistMutex;
 use crate::owner::{Next, Released};
 use crate::tests::{
-    Account, Order, Refusal, an_account, find_taken, own, settle, three_clerks, wait_with,
+    Account, Order, Refusal, an_account, closed, find_taken, own, settle, three_clerks, wait_with,
 };
 use combine_job::job::{Job, Room};
 use combine_job::once::OnceJob;
@@ -49,17 +49,14 @@ fn three_jobs<R: Abort + AllocGlobal + Wait, V: Room, J: Job<V>>(
     lock.join(&mut zero, one);
     lock.join(&mut zero, two);
     lock.join(&mut zero, three);
-    let (kept, _retired) = lock.close(zero);
-    match kept {
-        None => panic!(rt; "the value is lost"),
-        Some(kept) => Ok(Course {
-            released,
-            first,
-            second,
-            third,
-            kept,
-        }),
-    }
+    let kept = closed(rt, lock, zero);
+    Ok(Course {
+        released,
+        first,
+        second,
+        third,
+        kept,
+    })
 }
 
 // How many jobs the unlock ran, and the node that it made the owner, or 0 where the lock is free.

@@ -1,5 +1,5 @@
 //! The distributed lock at work: who owns it in which order, jobs of an account, and waits with a deadline.
-ghost use Rattle.std.specs.Prelude.{◌≡◌, ◌+◌, ◌*◌, ◌≤◌, length, [], Some, None};
+ghost use Rattle.std.specs.Prelude.{◌≡◌, ◌+◌, ◌-◌, ◌*◌, ◌≤◌, length, [], Some, None};
 ghost use Rattle.waiter_chain.specs.Calls.{IsBehind, PolledAs};
 ghost use Rattle.waiter_chain.specs.declared.view.Stage.TheVariants.{Behind};
 ghost use Rattle.combine_job.specs.declared.parcel.Parcel.TheVariants.{Posted};
@@ -12,7 +12,7 @@ use crate::owner::{Next, Owner};
 use crate::pass::DistPass;
 use combine_job::combining::post;
 use combine_job::job::{Job, Room};
-use combine_job::parcel::{JobAnswer, Parcel};
+use combine_job::parcel::{JobAnswer, Kept, Parcel};
 use ql_base::{Clock, ListClock};
 use std::process::Abort;
 use std::sync::Wait;
@@ -144,6 +144,7 @@ fn give_up<A: Abort, V: Room, J: Job<V>>(
     requires owner { Owning V.rooms J.means (slots_of bank.now) (dist_state clerk.old) (due_of clerk.old) (runs_of clerk.old) owner.turn owner.kept }
     ensures own { IsDistPassOf bank.now clerk.new }
     ensures idle { IsAtRest clerk.new }
+    ensures quota { (dist_view clerk.new).quota ≡ (dist_view clerk.old).quota - due_of clerk.old }
 {
     let released = bank.unlock(clerk, owner);
     assert!(rt; released.combined == 0);
@@ -342,16 +343,61 @@ pub(crate) fn three_clerks<V: Room, J: Job<V>>(
     (one, two, three)
 }
 
-// The lock is closed: how many jobs ran, and the balance.
-fn closed<A: Abort>(rt: &A, bank: Bank, clerk: Clerk) -> (u64, u64)
+// The lock is closed: its value, with the number of jobs that ran.
+pub(crate) fn closed<A: Abort, V: Room, J: Job<V>>(
+    rt: &A,
+    bank: DistMutex<V, J>,
+    clerk: DistPass<V, J>,
+) -> Kept<V>
     requires own { IsDistPassOf bank clerk }
     requires idle { IsAtRest clerk }
 {
-    let (kept, _retired) = bank.close(clerk);
+    let limit = bank.combine();
+    let (kept, retired) = bank.close(clerk);
+    assert!(rt; retired.combine() == limit);
     match kept {
-        Some(kept) => (kept.ran, kept.value.balance),
+        Some(kept) => kept,
         None => panic!(rt; "the value is lost"),
     }
+}
+
+// Three clerks come behind the owner, the last one last, and wait for the lock itself.
+fn line_up<A: Abort, V: Room, J: Job<V>>(
+    rt: &A,
+    bank: &DistMutex<V, J>,
+    one: &mut DistPass<V, J>,
+    two: &mut DistPass<V, J>,
+    three: &mut DistPass<V, J>,
+)
+    requires own { IsDistPassOf bank.now one.old × IsDistPassOf bank.now two.old × IsDistPassOf bank.now three.old }
+    requires idle { IsAtRest one.old × IsAtRest two.old × IsAtRest three.old }
+    ensures own { IsDistPassOf bank.now one.new × IsDistPassOf bank.now two.new × IsDistPassOf bank.now three.new }
+    ensures runs { (runs_of one.new ≡ []) × (runs_of two.new ≡ []) × (runs_of three.new ≡ []) }
+    ensures behind { IsBehind one.new.pass.behind (dist_state one.new) × IsBehind two.new.pass.behind (dist_state two.new) × IsBehind three.new.pass.behind (dist_state three.new) }
+{
+    wait_plain(rt, bank, one);
+    wait_plain(rt, bank, two);
+    wait_plain(rt, bank, three);
+    still_waits(rt, bank, two);
+}
+
+// The last that came is the first that owns the lock, and so on.
+fn own_one_after_the_other<A: Abort, V: Room, J: Job<V>>(
+    rt: &A,
+    bank: &DistMutex<V, J>,
+    one: &mut DistPass<V, J>,
+    two: &mut DistPass<V, J>,
+    three: &mut DistPass<V, J>,
+)
+    requires own { IsDistPassOf bank.now one.old × IsDistPassOf bank.now two.old × IsDistPassOf bank.now three.old }
+    requires runs { (runs_of one.old ≡ []) × (runs_of two.old ≡ []) × (runs_of three.old ≡ []) }
+    requires behind { IsBehind one.old.pass.behind (dist_state one.old) × IsBehind two.old.pass.behind (dist_state two.old) × IsBehind three.old.pass.behind (dist_state three.old) }
+    ensures own { IsDistPassOf bank.now one.new × IsDistPassOf bank.now two.new × IsDistPassOf bank.now three.new }
+    ensures idle { IsAtRest one.new × IsAtRest two.new × IsAtRest three.new }
+{
+    assert!(rt; own_in_turn(rt, bank, three) == Some(2));
+    assert!(rt; own_in_turn(rt, bank, two) == Some(1));
+    assert!(rt; own_in_turn(rt, bank, one).is_none());
 }
 
 #[test]
@@ -360,23 +406,17 @@ fn waiters_get_the_lock_in_turn(rt: HostRuntime) -> Result<(), Fail> {
     let (mut one, mut two, mut three) = three_clerks(&bank, &mut zero, 0);
     let owner = own(&rt, &bank, &mut zero);
     find_taken(&rt, &bank, &mut one);
-    wait_plain(&rt, &bank, &mut one);
-    wait_plain(&rt, &bank, &mut two);
-    wait_plain(&rt, &bank, &mut three);
-    still_waits(&rt, &bank, &mut two);
-
-    // The last that came is the first that owns.
+    line_up(&rt, &bank, &mut one, &mut two, &mut three);
     assert!(rt; give_up(&rt, &bank, &mut zero, owner) == Some(3));
     find_taken(&rt, &bank, &mut zero);
-    assert!(rt; own_in_turn(&rt, &bank, &mut three) == Some(2));
-    assert!(rt; own_in_turn(&rt, &bank, &mut two) == Some(1));
-    assert!(rt; own_in_turn(&rt, &bank, &mut one).is_none());
+    own_one_after_the_other(&rt, &bank, &mut one, &mut two, &mut three);
     let owner = own(&rt, &bank, &mut zero);
     assert!(rt; give_up(&rt, &bank, &mut zero, owner).is_none());
     bank.join(&mut zero, one);
     bank.join(&mut zero, two);
     bank.join(&mut zero, three);
-    assert!(rt; closed(&rt, bank, zero) == (0, 0));
+    let kept = closed(&rt, bank, zero);
+    assert!(rt; kept.ran == 0 && kept.value.balance == 0);
     Ok(())
 }
 
@@ -397,7 +437,8 @@ fn a_clerk_that_links_late_runs_its_own_order(rt: HostRuntime) -> Result<(), Fai
     assert!(rt; answer.at == 0 && answer.result == Ok(10));
     bank.join(&mut zero, one);
     bank.join(&mut zero, others);
-    assert!(rt; closed(&rt, bank, zero) == (1, 10));
+    let kept = closed(&rt, bank, zero);
+    assert!(rt; kept.ran == 1 && kept.value.balance == 10);
     Ok(())
 }
 
@@ -407,31 +448,20 @@ fn an_owner_runs_jobs_at_rising_positions(rt: HostRuntime) -> Result<(), Fail> {
     assert!(rt;
         bank.combine() == 0 && pass.quota() == 4 && pass.number() == 0 && pass.spare() == 1
     );
-    let mut owner = match bank.try_lock(&mut pass) {
-        Ok(owner) => owner,
-        Err(_busy) => panic!(rt; "the lock was taken"),
-    };
+    let mut owner = own(&rt, &bank, &mut pass);
     let first = bank.run_owned(&mut pass, &mut owner, Order::Take(4));
     let second = bank.run_owned(&mut pass, &mut owner, Order::Give(10));
     assert!(rt; first.at == 0 && first.result == Err(Refusal::Short(0)));
     assert!(rt; second.at == 1 && second.result == Ok(10));
     assert!(rt; pass.quota() == 2 && owner.ran() == 2 && owner.value().balance == 10);
-    match bank.unlock(&mut pass, owner).next {
-        Next::Free => {}
-        Next::Plain(_node) => panic!(rt; "somebody waits"),
-        Next::Spent(_job) => panic!(rt; "a job waits"),
-        Next::Unlinked(_job) => panic!(rt; "a job waits"),
-    }
+    assert!(rt; give_up(&rt, &bank, &mut pass, owner).is_none());
     let owner = bank.lock(&rt, &mut pass);
     assert!(rt; owner.ran() == 2);
-    let _released = bank.unlock(&mut pass, owner);
+    assert!(rt; give_up(&rt, &bank, &mut pass, owner).is_none());
     let third = bank.lock_combine(&rt, &mut pass, Order::Give(u64::MAX));
     assert!(rt; third.at == 2 && third.result == Err(Refusal::Over) && pass.quota() == 1);
-    let (kept, _retired) = bank.close(pass);
-    match kept {
-        Some(kept) => assert!(rt; kept.ran == 3 && kept.value.balance == 10),
-        None => panic!(rt; "the value is lost"),
-    }
+    let kept = closed(&rt, bank, pass);
+    assert!(rt; kept.ran == 3 && kept.value.balance == 10);
     Ok(())
 }
 
@@ -456,10 +486,7 @@ fn an_owned_lock_is_late_at_the_deadline(rt: HostRuntime) -> Result<(), Fail> {
     let mut clock = ListClock::new(vec![in rt.alloc(); 0, 3, 5, 6]?);
     let (bank, mut zero) = Bank::make(rt.alloc(), 2, 0, 0, an_account(0))?;
     let mut one = bank.split(&mut zero, 1, 0);
-    let owner = match bank.try_lock(&mut zero) {
-        Ok(owner) => owner,
-        Err(_busy) => panic!(rt; "the lock was taken"),
-    };
+    let owner = own(&rt, &bank, &mut zero);
     match bank.lock_until(&rt, &mut one, &mut clock, 5) {
         Ok(_owner) => panic!(rt; "two owners"),
         Err(late) => {

@@ -1,4 +1,4 @@
-use Rattle.std.proofs.Common.{◌≡◌, ℕ, List, sym, subst}
+use Rattle.std.proofs.Common.{ℕ, List, sym, subst}
 use Rattle.dist_mutex.specs.Owners.{Owning}
 use Rattle.dist_mutex.specs.Passes.{slots_of, dist_state}
 use Rattle.dist_mutex.proofs.tests.owned.Goals as goal

@@ -1,4 +1,4 @@
-use Rattle.std.proofs.Common.{◌≡◌, ℕ, ◌+◌, ◌*◌, ◌≤◌, List, [], ◌∷◌, length, Option, Some, refl, sym, ap, ◌∙◌, subst, inr, arith}
+use Rattle.std.proofs.Common.{◌≡◌, ℕ, ◌+◌, ◌*◌, ◌≤◌, List, [], ◌∷◌, Option, Some, refl, sym, ap, ◌∙◌, subst, inr, arith}
 use Rattle.waiter_chain.specs.Hands.{StandsAt}
 use Rattle.waiter_chain.specs.Steps.{SeatState, entry, moved}
 use Rattle.waiter_chain.specs.Calls.{MayEnter}
