@@ -1,5 +1,5 @@
 -- How many jobs ran on a lock's value, counted by the closing pass's list.
-use Rattle.std.proofs.Common.{◌≡◌, ℕ, ◌+◌, Result, Option, Some, List, [], ◌∷◌, ◌++◌, length, refl, sym, ap, ◌∙◌, arith}
+use Rattle.std.proofs.Common.{◌≡◌, ℕ, ◌+◌, Result, Option, Some, List, [], ◌∷◌, length, refl, sym, ap, ◌∙◌, arith}
 use Rattle.std.proofs.lemmas.List.{length-append}
 use Rattle.view_sums.specs.Sums.{total}
 use Rattle.waiter_chain.specs.Steps.{SeatState, joined}

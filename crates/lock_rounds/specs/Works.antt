@@ -1,6 +1,7 @@
 -- What the threads do in their rounds, and how many of them read.
-use Rattle.std.specs.Prelude.{ℕ, ◌-◌, ◌*◌, ◌%◌, ◌≤◌, List, Some, None, codes, bytes_eq, eqb, if◌then◌else◌}
+use Rattle.std.specs.Prelude.{◌≡◌, ℕ, ◌-◌, ◌%◌, ◌≤◌, List, [], ◌∷◌, Some, None, String, codes, bytes_eq, eqb, if◌then◌else◌, string_bytes}
 use Rattle.std.specs.Int.{div_ceil}
+use Rattle.std.specs.declared.alloc.Global.{Global}
 use Rattle.std.specs.declared.option.Option.{Option}
 use Rattle.hall.specs.declared.making.TheConstants.{MOST_SLOTS}
 use Rattle.lock_rounds.specs.declared.plan.TheConstants.{MOST_APART, MOST_ROUNDS}
@@ -22,6 +23,12 @@ act_in Reads95 round = if eqb (round % 20) 0 then Write else Read
 act_in Reads50 round = if eqb (round % 2) 0 then Write else Read
 act_in Writes round = Write
 act_in Upgrades round = Raise
+
+-- how many readers come in by it
+abbrev pub readers_in : Act → ℕ
+readers_in Read = 1
+readers_in Write = 0
+readers_in Raise = 0
 
 -- how many of a thread's first rounds read: all but each twentieth, or each second, of which the first round is one
 abbrev pub reads_of : Turn → ℕ → ℕ
@@ -47,6 +54,11 @@ work_named name =
     if bytes_eq name (codes "jobs0") then Some (Jobs 0) else
     if bytes_eq name (codes "jobs64") then Some (Jobs 64) else
     if bytes_eq name (codes "owners64") then Some (Owners 64) else None
+
+-- the first of these words is the name of the work
+abbrev pub IsFirstWord : List (String Global) → Work → Type 0
+IsFirstWord [] work = ⊥
+IsFirstWord (word ∷ more) work = work_named (string_bytes word) ≡ Some work
 
 -- a hall can be laid out so
 abbrev pub IsLayout : Layout → Type 0

@@ -1,6 +1,6 @@
 //! What a run does, from the program's words.
-ghost use Rattle.std.specs.Prelude.{◌≡◌, ◌≤◌, IfSome};
-ghost use Rattle.lock_rounds.specs.Works.{act_in, threads_in, work_named, IsRunnable};
+ghost use Rattle.std.specs.Prelude.{◌≡◌, ◌≤◌, ℕ, decimal, IfSome};
+ghost use Rattle.lock_rounds.specs.Works.{act_in, threads_in, work_named, IsFirstWord, IsRunnable};
 
 use hall::MOST_SLOTS;
 
@@ -129,9 +129,10 @@ pub struct Plan {
     pub layout: Layout,
 }
 
-// A number from 1 to `most`.
+// A number from 1 to `most`, in decimal.
 fn number(word: &str, most: u64) -> Option<u64>
-    ensures { IfSome result (λ n. (1 ≤ n) × (n ≤ most)) }
+    ensures within { IfSome result (λ n. (1 ≤ n) × (n ≤ most)) }
+    ensures told { (n : ℕ) → word.now ≡ decimal n → 1 ≤ n → n ≤ most → result ≡ Some n }
 {
     match word.parse::<u64>() {
         Ok(number) if 1 <= number && number <= most => Some(number),
@@ -143,7 +144,8 @@ impl Plan {
     /// The plan that these words tell: a work, the threads, the rounds of each, the slots, and how far the threads'
     /// numbers are apart, 1 where that isn't told. `None` where they tell none.
     pub fn of(words: &[String]) -> Option<Plan>
-        ensures { IfSome result IsRunnable }
+        ensures runnable { IfSome result IsRunnable }
+        ensures work { IfSome result (λ plan. IsFirstWord words.now plan.work) }
     {
         let (work, threads, rounds, slots, apart) = match words {
             [work, threads, rounds, slots] => (work, threads, rounds, slots, Some(1)),

@@ -1,10 +1,10 @@
 //! Rounds at the shared lock, on one thread or side by side.
-ghost use Rattle.std.specs.Prelude.{◌≡◌, ◌*◌, ◌≤◌, IfOk};
+ghost use Rattle.std.specs.Prelude.{◌≡◌, ◌+◌, ◌*◌, ◌^◌, ◌<◌, ◌≤◌, ℕ, IfOk};
 ghost use Rattle.std.specs.Thread.{IsSync};
-ghost use Rattle.lock_rounds.specs.Outside.{IsOutside};
+ghost use Rattle.lock_rounds.specs.Outside.{HasDone, IsOutside};
 ghost use Rattle.lock_rounds.specs.Seats.{AllOutside};
 ghost use Rattle.lock_rounds.specs.Tallies.{came_in};
-ghost use Rattle.lock_rounds.specs.Works.{reads_of, threads_in, IsLayout};
+ghost use Rattle.lock_rounds.specs.Works.{act_in, readers_in, reads_of, threads_in, IsLayout};
 ghost use Rattle.lock_rounds.specs.declared.plan.TheConstants.{MOST_ROUNDS};
 
 use crate::holds::{raise, read, write};
@@ -15,7 +15,28 @@ use std::alloc::Global;
 use std::sync::Wait;
 use std::thread::{Threads, join_mut};
 
-// The rounds of one thread.
+// One round of one thread. A reader is counted.
+fn play_round<R: Wait>(
+    rt: &R,
+    hall: &Hall<NoCargo>,
+    pass: &mut Pass<NoCargo>,
+    act: Act,
+    tally: &mut Tally,
+)
+    requires outside { IsOutside hall.now pass.old }
+    requires room { came_in tally.old + 1 < 2 ^ 64 }
+    ensures outside { IsOutside hall.now pass.new }
+    ensures done { HasDone act pass.new }
+    ensures counted { came_in tally.new ≡ came_in tally.old + readers_in act }
+{
+    match act {
+        Act::Read => tally.note(read(rt, hall, pass)),
+        Act::Write => write(rt, hall, pass),
+        Act::Raise => raise(rt, hall, pass),
+    }
+}
+
+// The rounds of one thread. However many there are, the last one did what it should.
 fn play<R: Wait>(
     rt: &R,
     hall: &Hall<NoCargo>,
@@ -26,15 +47,12 @@ fn play<R: Wait>(
     requires outside { IsOutside hall.now pass.old }
     requires rounds { rounds ≤ MOST_ROUNDS }
     ensures outside { IsOutside hall.now pass.new }
+    ensures last { (n : ℕ) → rounds ≡ n + 1 → HasDone (act_in turn n) pass.new }
     ensures reads { came_in result ≡ reads_of turn rounds }
 {
     let mut tally = Tally::default();
     for round in 0..rounds {
-        match turn.act(round) {
-            Act::Read => tally.note(read(rt, hall, pass)),
-            Act::Write => write(rt, hall, pass),
-            Act::Raise => raise(rt, hall, pass),
-        }
+        play_round(rt, hall, pass, turn.act(round), &mut tally);
     }
     tally
 }
