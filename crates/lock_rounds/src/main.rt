@@ -1,6 +1,6 @@
-//! `lock_rounds WORK THREADS ROUNDS SLOTS [APART]`: runs the locks by themselves. Each of 1, 2 or 4 threads does so many
-//! rounds of work at one lock, and the program prints how its readers came in, how many jobs ran, or how many an owner
-//! ran for others. `bench/locks` measures it.
+//! `lock_rounds WORK THREADS ROUNDS SLOTS [APART]`: runs the locks by themselves. Each of 1, 2 or 4 threads does so
+//! many rounds of work at one lock, and the program prints how its readers came in, how many jobs ran, or how many an
+//! owner ran for others. `bench/locks` measures it.
 //!
 //! | Module | What it has |
 //! |---|---|
