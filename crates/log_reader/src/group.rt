@@ -4,8 +4,8 @@ ghost use Rattle.log_reader.specs.Grouping.{front_of, groups_of, is_next as next
 
 use crate::Answered;
 use ql_base::NoMemory;
-use query_rules::{Query, Reply};
-use query_text::{Callers, Outcome};
+use query_rules::Query;
+use query_text::{Callers, KeptReply, Outcome};
 use std::alloc::Global;
 
 fn is_next(answered: &Answered, caller: u64, index: u64) -> bool
@@ -19,7 +19,7 @@ fn front<'a>(
     alloc: Global,
     caller: u64,
     lines: &'a [Answered],
-) -> Result<(Vec<Query>, Vec<Reply>, &'a [Answered]), NoMemory>
+) -> Result<(Vec<Query>, Vec<KeptReply>, &'a [Answered]), NoMemory>
     ensures queries { IfOk result (λ x. x.0.items ≡ (front_of caller 0 lines.now).queries) }
     ensures replies { IfOk result (λ x. x.1.items ≡ (front_of caller 0 lines.now).replies) }
     ensures rest { IfOk result (λ x. x.2.now ≡ (front_of caller 0 lines.now).rest) }
@@ -33,7 +33,7 @@ fn front<'a>(
             return Ok((queries, replies, rest));
         }
         queries.push(first.query)?;
-        replies.push(first.reply)?;
+        replies.push(KeptReply::of(first.reply))?;
         index += 1;
         rest = after;
     }

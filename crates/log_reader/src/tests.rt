@@ -1,7 +1,25 @@
 //! What no clause says: that reading succeeds with ample memory, and worked examples.
+ghost use Rattle.std.specs.Prelude.{◌<◌, length};
+
 use crate::{LogFault, read_log};
-use query_text::{LedgerTold, Query, Reply, Said};
+use query_text::{LedgerTold, Outcome, Query, Reply, Said};
 use std::alloc::AllocError;
+
+// Whether these are the replies to the first caller.
+fn has_told(outcome: &Outcome, told: &[Reply]) -> bool
+    requires { 0 < length outcome.now }
+{
+    let replies = outcome.replies(0);
+    if replies.len() != told.len() {
+        return false;
+    }
+    for i in 0..told.len() {
+        if replies[i].reply() != told[i] {
+            return false;
+        }
+    }
+    true
+}
 
 #[test]
 fn a_log_is_read_back(rt: HostRuntime) -> Result<(), AllocError> {
@@ -45,7 +63,7 @@ fn a_log_is_read_back(rt: HostRuntime) -> Result<(), AllocError> {
             said: Said::Absent,
         },
     ];
-    assert_eq!(rt; read.outcome.replies(0), told.as_slice());
+    assert!(rt; has_told(&read.outcome, &told));
     Ok(())
 }
 
@@ -77,6 +95,6 @@ fn refusals_and_jobs_are_read_back(rt: HostRuntime) -> Result<(), AllocError> {
             result: Ok(LedgerTold::Sum(18_446_744_073_709_551_619)),
         },
     ];
-    assert_eq!(rt; read.outcome.replies(0), told.as_slice());
+    assert!(rt; has_told(&read.outcome, &told));
     Ok(())
 }

@@ -1,4 +1,5 @@
 pub mod Counts
+pub mod Kept
 pub mod Reads
 pub mod Refusals
 pub mod Spaced

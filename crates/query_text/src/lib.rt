@@ -9,6 +9,7 @@
 #![tactic(auto)]
 
 mod digits;
+mod kept;
 mod log;
 mod log_line;
 mod number;
@@ -21,6 +22,7 @@ mod script_line;
 mod soak;
 mod words;
 
+pub use kept::KeptReply;
 pub use log::write_log;
 pub use log_line::Line;
 pub use number::numbers as word_numbers;

@@ -8,7 +8,7 @@ ghost use Rattle.query_rules.specs.History.{IsKindFor};
 ghost use Rattle.query_rules.specs.Log.{log_text, head_text, tables_line, spots_text, refused_text, refused_from, totals_text, total_line, end_line, spot_line, refused_line, asked_at, told_at, placed_count, IsSpot, IsOrder};
 
 use crate::log_line::{Line, write_answer, write_number};
-use crate::{Callers, Counts, Outcome, Script};
+use crate::{Callers, Counts, KeptReply, Outcome, Script};
 use ql_base::{Failed, Sink};
 use query_rules::{Query, Reply, Spot, Total};
 
@@ -77,7 +77,7 @@ fn reply_at(outcome: &Outcome, spot: &Spot) -> Reply
     ensures { told_at outcome.now spot.now ≡ Some result }
 {
     let replies = outcome.replies(spot.caller);
-    replies[spot.index as usize]
+    replies[spot.index as usize].reply()
 }
 
 #[tactic(auto, unfolding(query_rules::specs::Log::spot_line))]
@@ -130,11 +130,12 @@ fn write_if_refused<K: Sink>(
     caller: u64,
     index: u64,
     query: &Query,
-    reply: Reply,
+    reply: &KeptReply,
 ) -> Result<(), Failed>
-    ensures bytes { Writes (K.written sink.old) (K.written sink.new) result (refused_line caller index query.now reply) }
+    ensures bytes { Writes (K.written sink.old) (K.written sink.new) result (refused_line caller index query.now reply.now) }
     ensures cause { HasCause (K.faults sink.old) (K.faults sink.new) result }
 {
+    let reply = reply.reply();
     match reply {
         Reply::Busy | Reply::Late { .. } => write_answer(sink, line, caller, index, query, reply),
         Reply::Placed { .. } | Reply::Job { .. } => Ok(()),
@@ -146,7 +147,7 @@ fn write_refused_of<K: Sink>(
     sink: &mut K,
     caller: u64,
     queries: &[Query],
-    replies: &[Reply],
+    replies: &[KeptReply],
 ) -> Result<(), Failed>
     requires { length replies.now ≡ length queries.now }
     ensures bytes { Writes (K.written sink.old) (K.written sink.new) result (refused_from caller 0 queries.now replies.now) }
@@ -160,7 +161,7 @@ fn write_refused_of<K: Sink>(
             caller,
             index as u64,
             &queries[index],
-            replies[index],
+            &replies[index],
         )?;
     }
     Ok(())

@@ -3,13 +3,14 @@ ghost use Rattle.std.specs.Prelude.{◌≡◌, ◌+◌, ◌-◌, ◌<◌, ◌≤
 ghost use Rattle.query_rules.specs.Log.{is_counted, total_of};
 ghost use Rattle.query_rules.specs.declared.query.Total.{Total};
 
+use crate::kept::KeptReply;
 use query_rules::Reply;
 use std::marker::Model;
 
 /// The replies to each caller's queries.
 #[derive(Debug, Drop)]
 pub struct Outcome {
-    lists: Vec<Vec<Reply>>,
+    lists: Vec<Vec<KeptReply>>,
 }
 
 impl Model for Outcome {
@@ -25,7 +26,7 @@ impl Outcome {
     ghost use Rattle.query_text.specs.Counts.{total_in};
 
     /// The outcome with these lists, one for each caller. It takes no memory.
-    pub fn of(lists: Vec<Vec<Reply>>) -> Self
+    pub fn of(lists: Vec<Vec<KeptReply>>) -> Self
         ensures { result ≡ map (λ v. v.items) lists.items }
     {
         Outcome { lists }
@@ -39,7 +40,7 @@ impl Outcome {
     }
 
     /// The replies to one caller. Callers are numbered from 0.
-    pub fn replies(&self, caller: u64) -> &[Reply]
+    pub fn replies(&self, caller: u64) -> &[KeptReply]
         requires { caller < length self.now }
         ensures { result.now ≡ get_or self.now caller [] }
     {
@@ -84,12 +85,12 @@ impl Counts {
     }
 
     // Counts one reply.
-    fn count(&mut self, reply: Reply)
+    fn count(&mut self, reply: &KeptReply)
         requires { self.old.queries < 2 ^ 64 - 1 }
-        ensures { (t : Total) → total_in t self.new ≡ total_in t self.old + (if is_counted t reply then 1 else 0) }
+        ensures { (t : Total) → total_in t self.new ≡ total_in t self.old + (if is_counted t reply.now then 1 else 0) }
     {
         self.queries += 1;
-        match reply {
+        match reply.reply() {
             Reply::Placed { place, .. } if place % 2 == 1 => self.writes += 1,
             Reply::Placed { .. } => self.reads += 1,
             Reply::Busy | Reply::Late { .. } => self.refused += 1,
@@ -98,19 +99,19 @@ impl Counts {
     }
 
     // Counts the replies of one caller.
-    fn count_list(&mut self, replies: &[Reply])
+    fn count_list(&mut self, replies: &[KeptReply])
         requires { self.old.queries + length replies.now < 2 ^ 64 }
         ensures { (t : Total) → total_in t self.new ≡ total_in t self.old + count_by (is_counted t) replies.now }
     {
         let mut rest = replies;
         while let [reply, after @ ..] = rest {
-            self.count(*reply);
+            self.count(reply);
             rest = after;
         }
     }
 
     // Counts the replies of all callers.
-    fn count_lists(&mut self, lists: &[Vec<Reply>])
+    fn count_lists(&mut self, lists: &[Vec<KeptReply>])
         requires { self.old.queries + sum_by length (map (λ v. v.items) lists.now) < 2 ^ 64 }
         ensures { (t : Total) → total_in t self.new ≡ total_in t self.old + total_of t (map (λ v. v.items) lists.now) }
     {

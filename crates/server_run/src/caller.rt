@@ -22,7 +22,7 @@ use map_cargo::MapCargo;
 use ql_base::{Clock, Gate};
 use query_cells::ask;
 use query_log::{Ledger, LedgerJob};
-use query_text::{Callers, Query, Reply};
+use query_text::{Callers, KeptReply, Query, Reply};
 use std::sync::Wait;
 
 /// What a caller asks with, and what it was told: its pass through the hall, its pass of the ledger's lock, its clock,
@@ -32,7 +32,7 @@ pub struct Caller<T> {
     pub pass: Pass<MapCargo>,
     pub dist_pass: DistPass<Ledger, LedgerJob>,
     pub clock: T,
-    pub replies: Vec<Reply>,
+    pub replies: Vec<KeptReply>,
     /// Keeps what one thread writes off the cache lines of its neighbour in a list of callers.
     pub apart: CachePadded<()>,
 }
@@ -48,7 +48,7 @@ pub fn ask_all<R: Wait, T: Clock, G: Gate>(
     clock: &mut T,
     gate: &G,
     queries: &[Query],
-    replies: &mut Vec<Reply>,
+    replies: &mut Vec<KeptReply>,
 )
     requires pass { IsPassOf hall.now pass.old × IsIdle (view pass.old) }
     requires hall { HasCells hall.now }
@@ -77,13 +77,13 @@ pub fn ask_all<R: Wait, T: Clock, G: Gate>(
 }
 
 // Adds a reply, whose numbers are those of a machine, to a list that has room left.
-fn keep_reply(replies: &mut Vec<Reply>, reply: Reply)
+fn keep_reply(replies: &mut Vec<KeptReply>, reply: Reply)
     requires room { length replies.old.items < vec_capacity replies.old }
     ensures items { replies.new.items ≡ replies.old.items ++ reply ∷ [] }
     ensures room { vec_capacity replies.old ≤ vec_capacity replies.new }
     ensures numbers { IsReply reply }
 {
-    push_reserved(replies, reply);
+    push_reserved(replies, KeptReply::of(reply));
 }
 
 /// Asks the queries of the caller of this number, by passes and with a list that are made for them.
@@ -97,7 +97,7 @@ pub fn ask_for<R: Wait, T: Clock, G: Gate>(
     gate: &G,
     callers: &Callers,
     number: u64,
-    replies: &mut Vec<Reply>,
+    replies: &mut Vec<KeptReply>,
 )
     requires may { MayAsk hall.now callers.now }
     requires number { number < length callers.now }

@@ -12,7 +12,7 @@ use hall::{Hall, Pass};
 use map_cargo::MapCargo;
 use ql_base::{Clock, Gate};
 use query_log::{Ledger, LedgerJob};
-use query_text::{Callers, Reply};
+use query_text::{Callers, KeptReply};
 use std::sync::Wait;
 use std::thread::{Threads, join_mut};
 
@@ -97,7 +97,7 @@ pub fn run_both<R: Threads + Wait + Sync, T: Clock, G: Gate>(
     clock: &mut T,
     gate: &G,
     callers: &Callers,
-    replies: &mut Vec<Reply>,
+    replies: &mut Vec<KeptReply>,
     others: &mut [Caller<T>],
 )
     requires may { MayAsk hall.now callers.now }

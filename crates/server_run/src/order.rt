@@ -4,7 +4,7 @@ ghost use Rattle.query_rules.specs.Log.{IsOrder, spots_of, spots_from};
 ghost use Rattle.query_rules.specs.Log as log;
 
 use crate::reserved::push_reserved;
-use query_text::{Outcome, Reply, Section, Spot};
+use query_text::{KeptReply, Outcome, Reply, Section, Spot};
 
 /// The spots of all replies in the order of the log: those of the map lines, then those of the job lines. They are put
 /// into `room`, an empty list that was reserved for all replies, so the call takes no memory. It takes the time of two
@@ -47,10 +47,10 @@ fn add_section(spots: &mut Vec<Spot>, section: Section, outcome: &Outcome)
 }
 
 // What orders a reply in a section, where it stands there.
-fn key_in(section: Section, reply: Reply) -> Option<u64>
-    ensures { result ≡ log.key_in section reply }
+fn key_in(section: Section, reply: &KeptReply) -> Option<u64>
+    ensures { result ≡ log.key_in section reply.now }
 {
-    match (section, reply) {
+    match (section, reply.reply()) {
         (Section::Maps, Reply::Placed { place, .. }) => Some(place),
         (Section::Jobs, Reply::Job { at, .. }) => Some(at),
         _ => None,
@@ -58,7 +58,7 @@ fn key_in(section: Section, reply: Reply) -> Option<u64>
 }
 
 // Adds the spots of one caller's replies.
-fn add_spots(spots: &mut Vec<Spot>, section: Section, caller: u64, replies: &[Reply])
+fn add_spots(spots: &mut Vec<Spot>, section: Section, caller: u64, replies: &[KeptReply])
     requires room { length spots.old.items + length (spots_from section caller 0 replies.now) ≤ vec_capacity spots.old }
     ensures spots { spots.new.items ≡ spots.old.items ++ spots_from section caller 0 replies.now }
     ensures room { vec_capacity spots.old ≤ vec_capacity spots.new }
@@ -66,7 +66,7 @@ fn add_spots(spots: &mut Vec<Spot>, section: Section, caller: u64, replies: &[Re
     let mut index = 0;
     let mut rest = replies;
     while let [reply, after @ ..] = rest {
-        if let Some(key) = key_in(section, *reply) {
+        if let Some(key) = key_in(section, reply) {
             push_reserved(spots, Spot { key, caller, index });
         }
         index += 1;

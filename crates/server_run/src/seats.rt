@@ -23,12 +23,12 @@ use hall::{Hall, Pass};
 use map_cargo::MapCargo;
 use ql_base::{Clock, Clocks, NoMemory};
 use query_log::{Ledger, LedgerJob};
-use query_text::{Callers, Reply};
+use query_text::{Callers, KeptReply};
 use std::alloc::Global;
 use std::collections::VecDeque;
 
 /// Lists for the replies to each caller but the first, with room for all of them.
-pub fn reserve_lists(alloc: Global, callers: &Callers) -> Result<Vec<Vec<Reply>>, NoMemory>
+pub fn reserve_lists(alloc: Global, callers: &Callers) -> Result<Vec<Vec<KeptReply>>, NoMemory>
     requires some { 0 < length callers.now }
     ensures room { IfOk result (λ v. AllRoomy callers.now 1 v.items) }
     ensures len { IfOk result (λ v. vec_len v + 1 ≡ length callers.now) }
@@ -49,7 +49,7 @@ pub fn seat<T: Clocks>(
     dist_pass: &mut DistPass<Ledger, LedgerJob>,
     callers: &Callers,
     clocks: &T,
-    lists: Vec<Vec<Reply>>,
+    lists: Vec<Vec<KeptReply>>,
     seated: &mut VecDeque<Caller<T::Clock>>,
 )
     requires hall { IsPassOf hall.now pass.old × IsFirst (length callers.now) (sum_by writes_of callers.now) (view pass.old) }
@@ -83,7 +83,7 @@ fn seat_one<T: Clocks>(
     callers: &Callers,
     clocks: &T,
     number: u64,
-    replies: Vec<Reply>,
+    replies: Vec<KeptReply>,
 ) -> Caller<T::Clock>
     requires number { (0 < number) × (number < length callers.now) }
     requires hall { IsPassOf hall.now pass.old × IsFirst (number + 1) (sum_by writes_of (take (number + 1) callers.now)) (view pass.old) }
@@ -113,7 +113,7 @@ pub fn gather<T: Clock + Drop>(
     dist_pass: &mut DistPass<Ledger, LedgerJob>,
     callers: &Callers,
     seated: Vec<Caller<T>>,
-    told: &mut Vec<Vec<Reply>>,
+    told: &mut Vec<Vec<KeptReply>>,
 )
     requires own { IsPassOf hall.now pass.old × IsIdle (view pass.old) × IsDistPassOf dist.now dist_pass.old × IsAtRest dist_pass.old }
     requires taken { IsTaken (view pass.old) (dist_view dist_pass.old) callers.now (map (λ v. v.items) told.old.items) }
@@ -138,7 +138,7 @@ fn take_in<T: Clock + Drop>(
     dist: &DistMutex<Ledger, LedgerJob>,
     dist_pass: &mut DistPass<Ledger, LedgerJob>,
     caller: Caller<T>,
-) -> Vec<Reply>
+) -> Vec<KeptReply>
     requires own { IsPassOf hall.now pass.old × IsIdle (view pass.old) × IsDistPassOf dist.now dist_pass.old × IsAtRest dist_pass.old }
     requires other { IsPassOf hall.now caller.pass × IsIdle (view caller.pass) × IsDistPassOf dist.now caller.dist_pass × IsAtRest caller.dist_pass }
     ensures own { IsPassOf hall.now pass.new × IsIdle (view pass.new) × IsDistPassOf dist.now dist_pass.new × IsAtRest dist_pass.new }

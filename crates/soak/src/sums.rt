@@ -8,7 +8,7 @@ ghost use Rattle.query_rules.specs.declared.query.Total.TheVariants as total;
 ghost use Rattle.soak_laws.specs.Totals as laws;
 ghost use Rattle.query_rules.specs.declared.query.TheConstants.{MOST_QUERIES};
 
-use query_text::{Outcome, Query, Reply, Script, Totals};
+use query_text::{KeptReply, Outcome, Query, Reply, Script, Totals};
 use soak_laws::a_soak_has_one_summary;
 
 /// What the replies to the soak of `count` queries come to: their counts, the sum of what was added to the maps, and
@@ -61,7 +61,7 @@ impl Sums {
     }
 
     // Adds what the replies to one caller tell.
-    fn add_all(&mut self, queries: &[Query], replies: &[Reply])
+    fn add_all(&mut self, queries: &[Query], replies: &[KeptReply])
         requires long { length replies.now ≡ length queries.now }
         requires maps { self.old.maps + sum_by laws.told_delta (zip queries.now replies.now) < 2 ^ 128 }
         requires ledger { self.old.ledger + sum_by laws.told_gift (zip queries.now replies.now) < 2 ^ 128 }
@@ -69,7 +69,7 @@ impl Sums {
         ensures ledger { self.new.ledger ≡ self.old.ledger + sum_by laws.told_gift (zip queries.now replies.now) }
     {
         for i in 0..queries.len() {
-            self.add(&queries[i], replies[i]);
+            self.add(&queries[i], replies[i].reply());
         }
     }
 

@@ -5,7 +5,7 @@ use Rattle.log_reader.proofs.group.front.Goals as goal
 
 pub loop-rest-preserved : goal.loop-rest-preserved
 loop-rest-preserved c = (
-  rw (c.in_ok-push.ensures.items, c.in_ok-push-2.ensures.items) (front_more c.args.caller c.loop-rest.index _ _ _ c.loop-rest.rest.now _ c.in-len1-up.len_at_least (sym c.is_next.ensures ∙ c.if-not-is_next.false) c.loop-rest.invariant.0),
+  rw (c.in_ok-push.ensures.items, c.in_ok-push-2.ensures.items, c.of.ensures) (front_more c.args.caller c.loop-rest.index _ _ _ c.loop-rest.rest.now _ c.in-len1-up.len_at_least (sym c.is_next.ensures ∙ c.if-not-is_next.false) c.loop-rest.invariant.0),
   next_length c.loop-rest.rest.now _ _ c.in-len1-up.len_at_least c.loop-rest.invariant.1,
 )
 
