@@ -15,6 +15,8 @@ use crate::guards::{Guards, How, MANY, guards_of, holds_in, no_holds};
 use crate::one::{give_at, take, try_to_take};
 use crate::wants::{next_want, same_at};
 use hall::{Cargo, Hall, Mode, Pass, TryFault};
+use std::error::Error;
+use std::fmt;
 use std::sync::Wait;
 
 /// Two wants name one lock. No step was made.
@@ -23,6 +25,15 @@ pub struct SameCell {
     /// The first position in the list whose lock stands earlier in it.
     pub index: u64,
 }
+
+impl fmt::Display for SameCell {
+    fn fmt<W: fmt::Write>(&self, f: &mut fmt::Formatter<W>) -> fmt::Result {
+        let index = self.index;
+        write!(f, "the lock of want {index} stands earlier in the list too")
+    }
+}
+
+impl Error for SameCell {}
 
 /// Why several locks weren't taken. The pass is away from all of them.
 #[derive(Clone, Copy, Debug, PartialEq, Eq)]
@@ -39,6 +50,17 @@ pub enum ManyFault {
         fault: TryFault,
     },
 }
+
+impl fmt::Display for ManyFault {
+    fn fmt<W: fmt::Write>(&self, f: &mut fmt::Formatter<W>) -> fmt::Result {
+        match *self {
+            ManyFault::Same { index } => SameCell { index }.fmt(f),
+            ManyFault::Refused { index, fault } => write!(f, "want {index} was refused: {fault}"),
+        }
+    }
+}
+
+impl Error for ManyFault {}
 
 /// Waits until all locks of the list are held, each in its mode: at most `MANY`, and the pass is away from each. They
 /// are taken in the order of their numbers, whatever the order of the list, and the guards stand by the position of the

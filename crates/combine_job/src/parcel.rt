@@ -9,7 +9,7 @@ pub struct Kept<V> {
 }
 
 /// The answer of the job that ran at the position `at`, where the first job has the position 0.
-#[derive(Drop)]
+#[derive(Clone, Debug, PartialEq, Eq, Drop)]
 pub struct JobAnswer<O, X> {
     pub at: u64,
     pub result: Result<O, X>,

@@ -27,7 +27,7 @@ impl<V> Owner<V> {
 }
 
 /// How an unlock ended.
-#[derive(Drop)]
+#[derive(Clone, Copy, Debug, PartialEq, Eq, Drop)]
 pub struct Released {
     /// How many jobs of other nodes the unlock ran.
     pub combined: u32,
@@ -35,7 +35,7 @@ pub struct Released {
 }
 
 /// Who has the lock after an unlock.
-#[derive(Drop)]
+#[derive(Clone, Copy, Debug, PartialEq, Eq, Drop)]
 pub enum Next {
     /// Nobody.
     Free,

@@ -1,5 +1,7 @@
 //! What an acquisition gives, and why one is refused.
 use state_word::Word;
+use std::error::Error;
+use std::fmt;
 
 /// A shared hold of a lock. The right to the lock is the pass's standing, which this value names. It must be given back
 /// by an unlock: code that drops it doesn't compile.
@@ -62,3 +64,18 @@ pub enum TryFault {
     /// Both words were read in this call and differ, and the pass itself made no change by or between the two reads.
     Raced { expected: Word, found: Word },
 }
+
+impl fmt::Display for TryFault {
+    fn fmt<W: fmt::Write>(&self, f: &mut fmt::Formatter<W>) -> fmt::Result {
+        match *self {
+            TryFault::Busy { word } => write!(f, "the lock is busy: its word was {}", word.0),
+            TryFault::Raced { expected, found } => write!(
+                f,
+                "another seat came between: the word was {}, then {}",
+                expected.0, found.0
+            ),
+        }
+    }
+}
+
+impl Error for TryFault {}

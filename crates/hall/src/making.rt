@@ -10,6 +10,8 @@ use crate::view::{Plan, Shape};
 use atomic_table::Table;
 use lock_model::Policy;
 use std::alloc::Global;
+use std::error::Error;
+use std::fmt;
 
 /// The most locks of a hall.
 pub const MOST_LOCKS: u64 = 1 << 20;
@@ -21,8 +23,16 @@ pub const MOST_SLOTS: u64 = 256;
 pub const MOST_SEATS: u64 = 1 << 20;
 
 /// There was no memory for the words. The cargo was dropped.
-#[derive(Debug, Drop)]
+#[derive(Clone, Copy, Debug, PartialEq, Eq, Drop)]
 pub struct NoMemory;
+
+impl fmt::Display for NoMemory {
+    fn fmt<W: fmt::Write>(&self, f: &mut fmt::Formatter<W>) -> fmt::Result {
+        write!(f, "out of memory")
+    }
+}
+
+impl Error for NoMemory {}
 
 impl<C: Cargo> Hall<C> {
     ghost use Rattle.hall.specs.Passes.{view, IsPassOf, shape_of, cargo_of};

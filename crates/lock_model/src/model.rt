@@ -4,6 +4,8 @@ ghost use Rattle.lock_model.specs.Locks.{role_after, bars, role_in, is_free, wit
 ghost use Rattle.lock_model.specs.declared.model.Role.{Role};
 
 use std::alloc::Global;
+use std::error::Error;
+use std::fmt;
 use std::marker::Model;
 
 /// In which way a seat holds a lock.
@@ -82,6 +84,17 @@ pub enum Refused {
     /// There was no memory for one more seat.
     NoMemory,
 }
+
+impl fmt::Display for Refused {
+    fn fmt<W: fmt::Write>(&self, f: &mut fmt::Formatter<W>) -> fmt::Result {
+        match self {
+            Refused::NotAllowed => write!(f, "no move of the lock allows it"),
+            Refused::NoMemory => write!(f, "out of memory"),
+        }
+    }
+}
+
+impl Error for Refused {}
 
 impl Act {
     /// What the act makes of the role of the seat that does it, where it can do it at all.

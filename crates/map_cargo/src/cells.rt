@@ -18,6 +18,8 @@ ghost use Rattle.map_cargo.specs.Steps.{Suits, Alike, Reworded, rewrote, cargo_s
 
 use crate::size::MapCargo;
 use hall::{Hall, Note, Pass};
+use std::error::Error;
+use std::fmt;
 use std::marker::{Brand, PhantomData};
 
 /// The word and the value of one call. The call picks them.
@@ -224,6 +226,15 @@ pub fn get(hall: &Hall<MapCargo>, pass: &mut Pass<MapCargo>, cell: u64, key: u64
 pub struct CellFull {
     pub rows: u64,
 }
+
+impl fmt::Display for CellFull {
+    fn fmt<W: fmt::Write>(&self, f: &mut fmt::Formatter<W>) -> fmt::Result {
+        let rows = self.rows;
+        write!(f, "each of the {rows} rows of the cell is used")
+    }
+}
+
+impl Error for CellFull {}
 
 /// Gives a key this value in a cell that the pass holds exclusively, and answers the value before. `CellFull` comes
 /// exactly where the key is absent and each row is used; then nothing is changed. It looks at the rows from the key's

@@ -19,6 +19,8 @@ use crate::entry::Entry;
 use crate::size::MapCargo;
 use hall::{Hall, Note, Pass};
 use query_rules::Query;
+use std::error::Error;
+use std::fmt;
 use std::marker::{Brand, PhantomData};
 
 /// The entry of one call, which word of its log row, and the cargo. The call picks them.
@@ -69,6 +71,14 @@ impl<K: CallLogWord> Note<MapCargo> for Places<K> {
 /// The pass can draw no more writes.
 #[derive(Clone, Copy, Debug, PartialEq, Eq)]
 pub struct QuotaSpent;
+
+impl fmt::Display for QuotaSpent {
+    fn fmt<W: fmt::Write>(&self, f: &mut fmt::Formatter<W>) -> fmt::Result {
+        write!(f, "the pass can draw no more writes")
+    }
+}
+
+impl Error for QuotaSpent {}
 
 // The words of an entry's log row: caller + 1, index, code of the query, cell, second cell, key and two numbers.
 fn row_of(entry: &Entry, caller: u64) -> [u64; 8]

@@ -1,6 +1,9 @@
 //! Queries and replies.
 ghost use Rattle.std.specs.Prelude.{◌≡◌};
 
+use std::error::Error;
+use std::fmt;
+
 /// A question of a caller. Cells, keys, values, deadlines and amounts are numbers of 64 bits.
 #[derive(Clone, Copy, Debug, PartialEq, Eq)]
 pub enum Query {
@@ -202,6 +205,18 @@ pub enum LedgerTrouble {
     /// The account has only so much.
     Short(u64),
 }
+
+impl fmt::Display for LedgerTrouble {
+    fn fmt<W: fmt::Write>(&self, f: &mut fmt::Formatter<W>) -> fmt::Result {
+        match *self {
+            LedgerTrouble::Over => write!(f, "the sum would be above 2^64 - 1"),
+            LedgerTrouble::Full => write!(f, "there is no room for another account"),
+            LedgerTrouble::Short(amount) => write!(f, "the account has only {amount}"),
+        }
+    }
+}
+
+impl Error for LedgerTrouble {}
 
 /// A reply, and where it stands in its history.
 #[derive(Clone, Copy, Debug, PartialEq, Eq)]

@@ -4,8 +4,9 @@ ghost use Rattle.timed_wait.specs.Waiting.{AsksBelow};
 
 use crate::Attempt;
 use ql_base::Clock;
+use std::error::Error;
 use std::sync::Wait;
-use std::thread;
+use std::{fmt, thread};
 
 /// A wait came to its deadline.
 #[derive(Clone, Copy, Debug, PartialEq, Eq, Drop)]
@@ -16,6 +17,18 @@ pub struct Late<F> {
     /// What the last try was refused with.
     pub fault: F,
 }
+
+impl<F: fmt::Display> fmt::Display for Late<F> {
+    fn fmt<W: fmt::Write>(&self, f: &mut fmt::Formatter<W>) -> fmt::Result {
+        write!(
+            f,
+            "late: the clock answered {}, the deadline is {}, and the last try was refused: {}",
+            self.now, self.deadline, self.fault
+        )
+    }
+}
+
+impl<F: Error> Error for Late<F> {}
 
 /// Tries until a try succeeds, and gives what that try gave.
 ///

@@ -11,6 +11,8 @@ ghost use Rattle.shared_mutex.specs.Acquiring.{ElsewhereSame, MadeAtMost};
 ghost use Rattle.upgrade_mode.specs.Holding.{BeginsUpgrade, RacesToBegin};
 
 use hall::{Announced, Cargo, Hall, Pass, UpgradeGuard, Word};
+use std::error::Error;
+use std::fmt;
 
 /// Why the upgrade holder wasn't announced: between the load and the exchange another seat changed the word. It still
 /// holds upgrade, by this guard.
@@ -22,6 +24,18 @@ pub struct BeginRaced {
     /// The word that the exchange found. The two differ.
     pub found: Word,
 }
+
+impl fmt::Display for BeginRaced {
+    fn fmt<W: fmt::Write>(&self, f: &mut fmt::Formatter<W>) -> fmt::Result {
+        write!(
+            f,
+            "another seat came between: the word was {}, then {}",
+            self.expected.0, self.found.0
+        )
+    }
+}
+
+impl Error for BeginRaced {}
 
 /// Announces the upgrade holder as a writer, by one load and one exchange. Nobody else can be announced or hold the
 /// lock exclusively, so nothing but a race refuses it. The writer has swept no slot yet. At most 2 steps.

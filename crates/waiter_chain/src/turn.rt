@@ -1,4 +1,6 @@
 //! What the calls on a chain answer.
+use std::error::Error;
+use std::fmt;
 
 /// The owner's token. Its pass alone can spend it, by `Chain::grant` or by `Chain::next` where that frees the lock. It
 /// has no `Drop`, so an owner that forgets it does not compile.
@@ -9,10 +11,18 @@ pub struct Turn {
 }
 
 /// The lock was not free: the central word was this, which is not 0.
-#[derive(Drop)]
+#[derive(Clone, Copy, Debug, PartialEq, Eq, Drop)]
 pub struct DistBusy {
     pub word: u64,
 }
+
+impl fmt::Display for DistBusy {
+    fn fmt<W: fmt::Write>(&self, f: &mut fmt::Formatter<W>) -> fmt::Result {
+        write!(f, "the lock is busy: its central word was {}", self.word)
+    }
+}
+
+impl Error for DistBusy {}
 
 /// How a pass enters.
 #[derive(Clone, Copy)]
