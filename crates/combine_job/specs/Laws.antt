@@ -1,5 +1,5 @@
 -- The rule of parcels is kept by each step of a chain.
-use Rattle.std.specs.Prelude.{◌≡◌, ◌≢◌, ◌⊎◌, ℕ, ◌+◌, ◌≤◌, ◌<◌, Result, List, [], ◌∷◌, ◌++◌, length}
+use Rattle.std.specs.Prelude.{◌≡◌, ◌≢◌, ℕ, ◌+◌, ◌≤◌, ◌<◌, Result, List, [], ◌∷◌, ◌++◌, length}
 use Rattle.std.proofs.Common.{set, arith, refl, sym, ap, ◌∙◌, subst, ⊎_elim}
 use mathlib.Core.Option.{some, none, some-injective, some-ne-none, Option as Maybe}
 use lib.ListN.{get_elem?}

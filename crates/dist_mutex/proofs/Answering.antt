@@ -1,7 +1,7 @@
 -- A pass that has posted a job, and how the job is answered.
-use Rattle.std.proofs.Common.{◌≡◌, ◌≢◌, ◌⊎◌, ℕ, ◌+◌, ◌-◌, ◌*◌, ◌<◌, ◌≤◌, Result, Option, Some, None, List, [], ◌∷◌, ◌++◌, replicate, refl, sym, ap, ◌∙◌, subst, inl, inr, arith}
+use Rattle.std.proofs.Common.{◌≡◌, ℕ, ◌+◌, ◌-◌, ◌*◌, ◌<◌, ◌≤◌, Result, Option, Some, None, List, [], ◌∷◌, ◌++◌, replicate, refl, sym, ap, ◌∙◌, subst, inl, inr, arith}
 use mathlib.Core.Option.{some, Option as Maybe}
-use Rattle.waiter_chain.specs.Goods.{Goods, part, Counts}
+use Rattle.waiter_chain.specs.Goods.{part, Counts}
 use Rattle.waiter_chain.specs.Chains.{owed}
 use Rattle.waiter_chain.specs.Steps.{SeatState, Ranged, OwnHand, SoundJob, WinsBack, ownership_with, ownership_back, entry, moved, paid, collected, linked_by, SoundAnswer}
 use Rattle.waiter_chain.specs.Calls.{IsIdle, WonWith}
@@ -25,7 +25,7 @@ use Rattle.combine_job.proofs.Posting.{inside}
 use Rattle.dist_mutex.specs.Owners.{Owning, RanOne, polled_as}
 use Rattle.dist_mutex.specs.Unlocks.{by, Went, Unlocked}
 use Rattle.dist_mutex.specs.Posts.{HasPosted, WasAnswered, Waited}
-use Rattle.dist_mutex.proofs.Unlocking.{all_of, went_then, went_on, went_as, went_moved}
+use Rattle.dist_mutex.proofs.Unlocking.{all_of, went_then, went_on, went_moved}
 
 four : {A : Type 0} (xs : List A) (a b c d : A) → (((xs ++ a ∷ []) ++ b ∷ []) ++ c ∷ []) ++ d ∷ [] ≡ xs ++ a ∷ b ∷ c ∷ d ∷ []
 four [] a b c d = refl

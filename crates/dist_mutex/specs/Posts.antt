@@ -1,5 +1,5 @@
 -- A pass that posts a job, and how the job is answered.
-use Rattle.std.specs.Prelude.{◌≡◌, ◌≢◌, ◌⊎◌, ℕ, ◌+◌, ◌-◌, ◌*◌, ◌≤◌, ◌<◌, Result, Option, Some, None, List, [], ◌∷◌, ◌++◌, replicate}
+use Rattle.std.specs.Prelude.{◌≡◌, ◌≢◌, ◌⊎◌, ℕ, ◌+◌, ◌*◌, ◌≤◌, Result, Some, None, List, [], ◌∷◌, ◌++◌, replicate}
 use Rattle.waiter_chain.specs.Goods.{part}
 use Rattle.waiter_chain.specs.Steps.{SeatState, Ranged, SoundJob}
 use Rattle.waiter_chain.specs.Calls.{IsIdle}

@@ -1,5 +1,5 @@
 -- How turns bring a slot of a hand to the front, and back.
-use Rattle.std.proofs.Common.{◌≡◌, ◌≢◌, ◌⊎◌, ℕ, zero, suc, ◌+◌, ◌-◌, ◌*◌, ◌≤◌, List, [], ◌∷◌, ◌++◌, length, Option, Some, None, refl, sym, ap, ◌∙◌, subst, ⊎_elim, arith}
+use Rattle.std.proofs.Common.{◌≡◌, ℕ, zero, suc, ◌-◌, ◌≤◌, List, [], ◌∷◌, ◌++◌, length, refl, sym, ap, ◌∙◌, subst, ⊎_elim, arith}
 use Rattle.atomic_table.specs.Table.{rest, turned}
 use Rattle.waiter_chain.specs.Hands.{turned_by, StandsAt, TurnsTo}
 

@@ -1,5 +1,5 @@
 -- What the calls on a chain promise.
-use Rattle.std.specs.Prelude.{◌≡◌, ◌≢◌, ◌⊎◌, ℕ, ◌+◌, ◌-◌, ◌*◌, ◌<◌, ◌≤◌, List, [], ◌∷◌, ◌++◌, length, Option, Some, None, Bool, true, false}
+use Rattle.std.specs.Prelude.{◌≡◌, ◌≢◌, ◌⊎◌, ℕ, ◌+◌, ◌-◌, ◌*◌, ◌<◌, ◌≤◌, List, [], ◌∷◌, ◌++◌, Option, Some, None, Bool, true, false}
 use Rattle.atomic_table.specs.Table.{rest}
 use Rattle.waiter_chain.specs.Goods.{Goods, part, Runs, Counts}
 use Rattle.waiter_chain.specs.Steps.{SeatState, Ranged, OwnHand, HasOwn, Sound, SoundJob, SoundNext, SoundAnswer, WinsBack, ownership, ownership_with, passed, retook, seen_job, with_next, settled_notes, served, settled, collected, paid, linked_by, with_steps, entry, moved, noted, stays, ended}

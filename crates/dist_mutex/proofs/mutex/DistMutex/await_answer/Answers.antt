@@ -5,7 +5,7 @@ use Rattle.waiter_chain.specs.declared.view.StepKind.TheVariants.{LoadStatus}
 use Rattle.waiter_chain.specs.declared.view.Stage.TheVariants.{Behind}
 use Rattle.combine_job.specs.declared.parcel.Parcel.TheVariants.{Posted}
 use Rattle.combine_job.specs.Parcels.{Ruled}
-use Rattle.dist_mutex.proofs.Waits.{polled-more, polled-none}
+use Rattle.dist_mutex.proofs.Waits.{polled-more}
 use Rattle.dist_mutex.proofs.Answering.{back_posted, waited_done, waited_owner}
 use Rattle.dist_mutex.proofs.mutex.DistMutex.await_answer.Goals as goal
 

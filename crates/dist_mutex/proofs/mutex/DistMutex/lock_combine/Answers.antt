@@ -1,4 +1,4 @@
-use Rattle.std.proofs.Common.{◌≡◌, ℕ, ◌+◌, ◌-◌, ◌*◌, List, [], ◌∷◌, ◌++◌, length, Some, true, refl, sym, ap, ◌∙◌, subst, inl, inr, append_assoc, arith}
+use Rattle.std.proofs.Common.{◌≡◌, ℕ, ◌+◌, ◌-◌, ◌*◌, [], ◌∷◌, length, Some, true, refl, sym, ap, ◌∙◌, subst, inl, inr, arith}
 use Rattle.waiter_chain.specs.Steps.{entry, paid}
 use Rattle.waiter_chain.specs.Calls.{readied_state}
 use Rattle.waiter_chain.specs.declared.view.StepEntry.{StepEntry}
@@ -6,8 +6,7 @@ use Rattle.waiter_chain.specs.declared.view.StepKind.TheVariants.{SwapIn, StoreL
 use Rattle.waiter_chain.specs.declared.turn.Turn.{Turn}
 use Rattle.waiter_chain.specs.declared.view.Stage.TheVariants.{Behind}
 use Rattle.waiter_chain.proofs.Turns.{same_first}
-use Rattle.combine_job.specs.declared.parcel.Parcel.TheVariants.{Posted, Answered}
-use Rattle.combine_job.specs.Parcels.{Related}
+use Rattle.combine_job.specs.declared.parcel.Parcel.TheVariants.{Posted}
 use Rattle.combine_job.specs.Combining.{held_state}
 use Rattle.combine_job.proofs.Posting.{inside}
 use Rattle.dist_mutex.specs.Unlocks.{Unlocked, by}

@@ -1,9 +1,8 @@
 use Rattle.std.proofs.Common.{◌≡◌, ℕ, ◌+◌, ◌*◌, ◌<◌, List, [], ◌∷◌, ◌++◌, Option, Some, None, refl, sym, ap, ◌∙◌, subst, inl, inr, arith}
 use Rattle.waiter_chain.specs.Goods.{part}
 use Rattle.waiter_chain.specs.Hands.{StandsAt}
-use Rattle.waiter_chain.specs.declared.turn.Turn.{Turn}
 use Rattle.combine_job.specs.declared.parcel.Parcel.TheVariants.{Value, Posted, Answered}
-use Rattle.combine_job.specs.Parcels.{Related, IsJob}
+use Rattle.combine_job.specs.Parcels.{Related}
 use Rattle.combine_job.proofs.Posting.{stands_front, inside, is_there}
 use Rattle.combine_job.proofs.Rooms.{may_run_own, own_early}
 use Rattle.dist_mutex.specs.Owners.{Owning}

@@ -1,4 +1,4 @@
-use Rattle.std.proofs.Common.{◌+◌, ◌*◌, arith, ap, ◌∙◌}
+use Rattle.std.proofs.Common.{arith, ap, ◌∙◌}
 use Rattle.waiter_chain.proofs.Turns.{stands_first, moved_told}
 use Rattle.waiter_chain.proofs.chain.Chain.move_slot.Goals as goal
 

@@ -1,4 +1,4 @@
-use Rattle.std.proofs.Common.{◌-◌, ◌+◌, ◌*◌, ◌∷◌, Some, refl, ap, ◌∙◌, arith}
+use Rattle.std.proofs.Common.{Some, refl, ap, ◌∙◌, arith}
 use Rattle.waiter_chain.specs.Hands.{turned_by}
 use Rattle.waiter_chain.proofs.Passes.{served_told, come_first}
 use Rattle.waiter_chain.proofs.Helps.{does-job}
