@@ -11,7 +11,6 @@ ghost use Rattle.shared_mutex.specs.Acquiring.{ElsewhereSame, MadeAtMost};
 ghost use Rattle.upgrade_mode.specs.Holding.{BeginsUpgrade, RacesToBegin};
 
 use hall::{Announced, Cargo, Hall, Pass, UpgradeGuard, Word};
-use std::error::Error;
 use std::fmt;
 
 /// Why the upgrade holder wasn't announced: between the load and the exchange another seat changed the word. It still
@@ -34,8 +33,6 @@ impl fmt::Display for BeginRaced {
         )
     }
 }
-
-impl Error for BeginRaced {}
 
 /// Announces the upgrade holder as a writer, by one load and one exchange. Nobody else can be announced or hold the
 /// lock exclusively, so nothing but a race refuses it. The writer has swept no slot yet. At most 2 steps.
