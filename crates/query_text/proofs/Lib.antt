@@ -16,5 +16,7 @@ mod Tallies
 pub mod Spots
 -- A log's text, by its parts.
 pub mod LogTexts
+-- Packed spots stand in the order of what they say.
+pub mod PackedOrder
 -- How many digits a number has, and digits that are written behind a front.
 pub mod DigitCounts

@@ -22,7 +22,7 @@ use Rattle.query_rules.specs.declared.query.Spot.{Spot}
 use Rattle.query_rules.specs.declared.query.Total.TheVariants as total
 use Rattle.query_rules.specs.History.{IsKindFor}
 use Rattle.query_text.proofs.Tallies.{one_if, count_cons}
-use Rattle.query_rules.specs.Log.{key_in, spots_with, spots_from, spots_of, is_counted, placed_count, refused_line, refused_from, refused_of, IsSpot, IsOrder, IsOrderOf}
+use Rattle.query_rules.specs.Log.{key_in, spots_with, spots_from, spots_of, is_counted, total_of, placed_count, refused_line, refused_from, refused_of, IsSpot, IsOrder, IsOrderOf}
 
 parity : (place : ℕ) → one_if (place % 2 == 1) + one_if (place % 2 == 0) ≡ 1
 parity place = grind arith
@@ -146,6 +146,25 @@ pub order_spots : (section : Section) (asked : List (List Query)) (told : List (
 order_spots section asked told order is in_order =
     let all = all_map (IsWithin 0 told) (IsSpot asked told) (spots_of section 0 told) (is_spot asked told is) (of_within section 0 told) in
     recursion_from_All (IsSpot asked told) order (All-permutation (IsSpot asked told) (spots_of section 0 told) order in_order.each (All-from_recursion (IsSpot asked told) (spots_of section 0 told) all))
+
+-- where no refusal is counted there are no lines of refusals
+from_none : (caller index : ℕ) (queries : List Query) (replies : List Reply) → count_by (is_counted total.Refused) replies ≡ 0 → refused_from caller index queries replies ≡ []
+from_none caller index [] replies none = refl
+from_none caller index (q ∷ queries) [] none = refl
+from_none caller index (q ∷ queries) (Placed place said ∷ replies) none =
+    from_none caller (index + 1) queries replies (omega (arith, none, count_cons (is_counted total.Refused) (Placed place said) replies))
+from_none caller index (q ∷ queries) (Busy ∷ replies) none = absurd (omega (arith, none, count_cons (is_counted total.Refused) Busy replies))
+from_none caller index (q ∷ queries) (Late now ∷ replies) none = absurd (omega (arith, none, count_cons (is_counted total.Refused) (Late now) replies))
+from_none caller index (q ∷ queries) (Job at result ∷ replies) none =
+    from_none caller (index + 1) queries replies (omega (arith, none, count_cons (is_counted total.Refused) (Job at result) replies))
+
+pub refused_none : (caller : ℕ) (asked : List (List Query)) (told : List (List Reply)) → total_of total.Refused told ≡ 0 → refused_of caller asked told ≡ []
+refused_none caller [] told none = refl
+refused_none caller (queries ∷ asked) [] none = refl
+refused_none caller (queries ∷ asked) (replies ∷ told) none =
+    let all = sum_by-cons (count_by (is_counted total.Refused)) replies told in
+    let here : refused_from caller 0 queries replies ≡ [] = from_none caller 0 queries replies (omega (arith, none, all)) in
+    ap (λ l. l ++ refused_of (caller + 1) asked told) here ∙ refused_none (caller + 1) asked told (omega (arith, none, all))
 
 -- the lines of refusals, one reply and one caller at a time
 refused_cut : (caller i : ℕ) (queries : List Query) (replies : List Reply) (q : Query) (r : Reply) → i < length queries → i < length replies

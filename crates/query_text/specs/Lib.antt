@@ -1,5 +1,6 @@
 pub mod Counts
 pub mod Kept
+pub mod Packed
 pub mod Reads
 pub mod Refusals
 pub mod Spaced

@@ -14,6 +14,7 @@ mod log;
 mod log_line;
 mod number;
 mod outcome;
+mod packed;
 mod parse;
 mod query_list;
 mod refusal;
@@ -27,10 +28,11 @@ pub use log::write_log;
 pub use log_line::Line;
 pub use number::numbers as word_numbers;
 pub use outcome::{Counts, Outcome};
+pub use packed::{PackedSpot, SPOT_CALLERS, SPOT_INDEXES, SPOT_KEYS};
 pub use parse::{ParseFault, parse_script};
 pub use query_rules::{
     Cause, LedgerTold, LedgerTrouble, MOST_CALLERS, MOST_CELLS, MOST_QUERIES, Query, Reply, Said,
-    Section, Spot, Totals, Verb, number as word_number,
+    Section, Totals, Verb, number as word_number,
 };
 pub use refusal::{Refusal, write_refusal};
 pub use script::{Callers, Script};

@@ -5,29 +5,32 @@ ghost use Rattle.ql_base.specs.Bytes.{Writes};
 ghost use Rattle.ql_base.specs.Causes.{HasCause};
 ghost use Rattle.query_text.specs.Counts.{totals_in};
 ghost use Rattle.query_rules.specs.History.{IsKindFor};
-ghost use Rattle.query_rules.specs.Log.{log_text, head_text, tables_line, spots_text, refused_text, refused_from, totals_text, total_line, end_line, spot_line, refused_line, asked_at, told_at, placed_count, IsSpot, IsOrder};
+ghost use Rattle.query_rules.specs.declared.query.Total.TheVariants as total;
+ghost use Rattle.query_rules.specs.Log.{log_text, head_text, tables_line, refused_text, refused_from, totals_text, total_line, end_line, spot_line, refused_line, total_of, asked_at, told_at, placed_count, IsOrder};
+ghost use Rattle.query_text.specs.Packed.{spot_in, spots_in, packed_text, IsPackedSpot};
 
 use crate::log_line::{Line, write_answer, write_number};
-use crate::{Callers, Counts, KeptReply, Outcome, Script};
+use crate::{Callers, Counts, KeptReply, Outcome, PackedSpot, Script};
 use ql_base::{Failed, Sink};
-use query_rules::{Query, Reply, Spot, Total};
+use query_rules::{Query, Reply, Total};
 
 /// Writes the log of a script with so many rows in each cell: what was replied, and the totals. A line is handed to the
 /// sink as one piece, and the rest of it again until it is taken.
 ///
 /// `order` has the spots of the map lines and then those of the job lines, each part by key, caller and index. The call
-/// takes no memory, and goes over the replies a fixed number of times.
+/// takes no memory, and goes over the replies a fixed number of times: once to count them, once to write their lines, and
+/// once for refusals where there are any.
 pub fn write_log<K: Sink>(
     sink: &mut K,
     script: &Script,
     rows: u64,
     outcome: &Outcome,
-    order: &[Spot],
+    order: &[PackedSpot],
 ) -> Result<(), Failed>
     // Each query has a reply of a kind that it may get.
     requires kinds { AllZip (AllZip IsKindFor) script.now.callers outcome.now }
-    requires order { IsOrder outcome.now order.now }
-    ensures bytes { Writes (K.written sink.old) (K.written sink.new) result (log_text script.now rows outcome.now order.now) }
+    requires order { IsOrder outcome.now (spots_in order.now) }
+    ensures bytes { Writes (K.written sink.old) (K.written sink.new) result (log_text script.now rows outcome.now (spots_in order.now)) }
     ensures cause { HasCause (K.faults sink.old) (K.faults sink.new) result }
 {
     let callers = script.callers();
@@ -61,23 +64,23 @@ fn write_head<K: Sink>(sink: &mut K, script: &Script, rows: u64) -> Result<(), F
 }
 
 // The query of a spot.
-fn query_at<'a>(callers: &'a Callers, spot: &Spot) -> &'a Query
-    requires caller { spot.now.caller < length callers.now }
-    requires index { spot.now.index < length (get_or callers.now spot.now.caller []) }
-    ensures { asked_at callers.now spot.now ≡ Some result.now }
+fn query_at<'a>(callers: &'a Callers, spot: PackedSpot) -> &'a Query
+    requires caller { (spot_in spot).caller < length callers.now }
+    requires index { (spot_in spot).index < length (get_or callers.now (spot_in spot).caller []) }
+    ensures { asked_at callers.now (spot_in spot) ≡ Some result.now }
 {
-    let queries = callers.queries(spot.caller);
-    &queries[spot.index as usize]
+    let queries = callers.queries(spot.caller());
+    &queries[spot.index() as usize]
 }
 
 // The reply of a spot.
-fn reply_at(outcome: &Outcome, spot: &Spot) -> Reply
-    requires caller { spot.now.caller < length outcome.now }
-    requires index { spot.now.index < length (get_or outcome.now spot.now.caller []) }
-    ensures { told_at outcome.now spot.now ≡ Some result }
+fn reply_at(outcome: &Outcome, spot: PackedSpot) -> Reply
+    requires caller { (spot_in spot).caller < length outcome.now }
+    requires index { (spot_in spot).index < length (get_or outcome.now (spot_in spot).caller []) }
+    ensures { told_at outcome.now (spot_in spot) ≡ Some result }
 {
-    let replies = outcome.replies(spot.caller);
-    replies[spot.index as usize].reply()
+    let replies = outcome.replies(spot.caller());
+    replies[spot.index() as usize].reply()
 }
 
 #[tactic(auto, unfolding(query_rules::specs::Log::spot_line))]
@@ -86,18 +89,18 @@ fn write_at<K: Sink>(
     line: &mut Line,
     callers: &Callers,
     outcome: &Outcome,
-    spot: &Spot,
+    spot: PackedSpot,
 ) -> Result<(), Failed>
-    requires { IsSpot callers.now outcome.now spot.now }
-    ensures bytes { Writes (K.written sink.old) (K.written sink.new) result (spot_line callers.now outcome.now spot.now) }
+    requires { IsPackedSpot callers.now outcome.now spot }
+    ensures bytes { Writes (K.written sink.old) (K.written sink.new) result (spot_line callers.now outcome.now (spot_in spot)) }
     ensures cause { HasCause (K.faults sink.old) (K.faults sink.new) result }
 {
     let query = query_at(callers, spot);
     write_answer(
         sink,
         line,
-        spot.caller,
-        spot.index,
+        spot.caller(),
+        spot.index(),
         query,
         reply_at(outcome, spot),
     )
@@ -108,16 +111,16 @@ fn write_spots<K: Sink>(
     sink: &mut K,
     callers: &Callers,
     outcome: &Outcome,
-    order: &[Spot],
+    order: &[PackedSpot],
 ) -> Result<(), Failed>
-    requires { AllByRecursion (IsSpot callers.now outcome.now) order.now }
-    ensures bytes { Writes (K.written sink.old) (K.written sink.new) result (spots_text callers.now outcome.now order.now) }
+    requires { AllByRecursion (IsPackedSpot callers.now outcome.now) order.now }
+    ensures bytes { Writes (K.written sink.old) (K.written sink.new) result (packed_text callers.now outcome.now order.now) }
     ensures cause { HasCause (K.faults sink.old) (K.faults sink.new) result }
 {
     let mut line = Line::new(b"");
     let mut rest = order;
     while let [spot, after @ ..] = rest {
-        write_at(sink, &mut line, callers, outcome, spot)?;
+        write_at(sink, &mut line, callers, outcome, *spot)?;
         rest = after;
     }
     Ok(())
@@ -167,12 +170,21 @@ fn write_refused_of<K: Sink>(
     Ok(())
 }
 
-// Writes the lines of all refusals.
-fn write_refused<K: Sink>(sink: &mut K, callers: &Callers, outcome: &Outcome) -> Result<(), Failed>
-    requires { AllZip (AllZip IsKindFor) callers.now outcome.now }
+// Writes the lines of all refusals, of which there are so many.
+fn write_refused<K: Sink>(
+    sink: &mut K,
+    callers: &Callers,
+    outcome: &Outcome,
+    refused: u64,
+) -> Result<(), Failed>
+    requires kinds { AllZip (AllZip IsKindFor) callers.now outcome.now }
+    requires counted { refused ≡ total_of total.Refused outcome.now }
     ensures bytes { Writes (K.written sink.old) (K.written sink.new) result (refused_text callers.now outcome.now) }
     ensures cause { HasCause (K.faults sink.old) (K.faults sink.new) result }
 {
+    if refused == 0 {
+        return Ok(());
+    }
     for caller in 0..callers.count() {
         write_refused_of(
             sink,
@@ -242,16 +254,17 @@ fn write_later<K: Sink>(
     sink: &mut K,
     callers: &Callers,
     outcome: &Outcome,
-    jobs: &[Spot],
+    jobs: &[PackedSpot],
     totals: &Counts,
 ) -> Result<(), Failed>
     requires kinds { AllZip (AllZip IsKindFor) callers.now outcome.now }
-    requires spots { AllByRecursion (IsSpot callers.now outcome.now) jobs.now }
+    requires spots { AllByRecursion (IsPackedSpot callers.now outcome.now) jobs.now }
+    requires counted { totals.now.refused ≡ total_of total.Refused outcome.now }
     ensures bytes { Writes (K.written sink.old) (K.written sink.new) result
-        (refused_text callers.now outcome.now ++ (spots_text callers.now outcome.now jobs.now ++ (totals_text (totals_in totals.now) ++ end_line))) }
+        (refused_text callers.now outcome.now ++ (packed_text callers.now outcome.now jobs.now ++ (totals_text (totals_in totals.now) ++ end_line))) }
     ensures cause { HasCause (K.faults sink.old) (K.faults sink.new) result }
 {
-    write_refused(sink, callers, outcome)?;
+    write_refused(sink, callers, outcome, totals.refused)?;
     write_spots(sink, callers, outcome, jobs)?;
     write_close(sink, totals)
 }

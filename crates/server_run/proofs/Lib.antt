@@ -10,6 +10,8 @@ mod Crowds
 mod Numbers
 -- The order of a log, and the log itself.
 mod Orders
+-- The places and the positions of a history fit packed spots.
+mod Places
 -- What is refused isn't accepted, and what is accepted is a script that can be written.
 mod Refusals
 -- A soak that ran comes to its totals.

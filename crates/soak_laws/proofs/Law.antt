@@ -16,7 +16,8 @@ use Rattle.soak_laws.proofs.Sums.{total_same, total_length, total_sum, all_as, b
 use Rattle.soak_laws.proofs.SoakKinds.{is_fine_add, is_fine_give, is_look, IsLong, Served, long_once, soak_entries, queries_total, count_total}
 use Rattle.soak_laws.proofs.MapLaws.{fit_all, fit_none, sum_all, sum_none}
 use Rattle.soak_laws.proofs.LedgerLaws.{given_all, given_none}
-use Rattle.soak_laws.proofs.Served.{Entry, writes_fine, all_served, delta_total, jobs_fine, jobs_count}
+use Rattle.soak_laws.proofs.Once.{Entry}
+use Rattle.soak_laws.proofs.Served.{writes_fine, all_served, delta_total, jobs_fine, jobs_count}
 use Rattle.soak_laws.proofs.Generated.{soak_total, query_add, query_look, query_give, query_delta, query_gift, look_split, callers_soak}
 
 module _ (count : ℕ) (few : count ≤ 1000000) (told : List (List Reply)) (h : IsHistory 16 (soak_callers count) told) where

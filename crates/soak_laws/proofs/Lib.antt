@@ -6,6 +6,8 @@ mod Examples
 pub mod Sums
 -- Entries that name places of a list, where each place is named once: a sum over the list is a sum over the entries.
 pub mod Exchange
+-- The entries of a history name its writes and its jobs, each once: so there are no more of these than entries.
+pub mod Once
 -- The queries that the soak asks, and what may be replied to them.
 pub mod SoakKinds
 -- The maps after additions to sixteen keys of eight cells: how great their values are, how many keys they have, and what their values sum to.

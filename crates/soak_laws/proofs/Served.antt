@@ -1,29 +1,25 @@
 -- What the soak's queries are told in any history: an addition is a write, a look a read, and a gift a job.
-use Rattle.std.proofs.Common.{◌≡◌, ◌≢◌, inl, inr, ℕ, zero, suc, ◌+◌, ◌*◌, ◌/◌, ◌%◌, ◌^◌, ◌<◌, ◌≤◌, ◌==◌, List, [], ◌∷◌, length, take, slice_get, Some, None, Option, is_some, unwrap_or, refl, sym, ap, ◌∙◌, subst, arith, Bool, true, false, cond, IsTrue, IsFalse, eq-eqb, ne_eqb, eqb-true, MatchBool}
+use Rattle.std.proofs.Common.{◌≡◌, ◌≢◌, inl, inr, ℕ, zero, suc, ◌+◌, ◌/◌, ◌%◌, ◌^◌, ◌<◌, ◌≤◌, ◌==◌, List, [], ◌∷◌, length, take, slice_get, Some, None, Option, is_some, unwrap_or, refl, sym, ap, ◌∙◌, subst, arith, Bool, true, false, cond, IsTrue, IsFalse, eq-eqb, ne_eqb, eqb-true, MatchBool}
 use Rattle.std.specs.List.{AllByRecursion}
 use Rattle.query_rules.specs.declared.query.Query.{Query}
 use Rattle.query_rules.specs.declared.query.Query.TheVariants.{Get, Len, Add, Give}
 use Rattle.query_rules.specs.declared.query.Said.{Said}
 use Rattle.query_rules.specs.declared.query.Said.TheVariants.{Found, Absent, Count}
-use Rattle.query_rules.specs.declared.query.LedgerAct.{LedgerAct}
 use Rattle.query_rules.specs.declared.query.Reply.{Reply}
 use Rattle.query_rules.specs.declared.query.Reply.TheVariants.{Placed, Busy, Late, Job}
 use Rattle.query_rules.specs.declared.query.Total.TheVariants as total
 use Rattle.query_rules.specs.Maps.{PlainMap, Maps, no_entries, reply_of, add_says, is_full, is_write, exceeds_u64}
-use Rattle.query_rules.specs.Ledger.{no_accounts, act_of, RunsAt, is_job_at, IsLegalLedger}
-use Rattle.query_rules.specs.History.{IsKindFor, StandsAt, is_write_at, maps_at, IsLegal, is_value, is_count}
+use Rattle.query_rules.specs.Ledger.{no_accounts, act_of, IsLegalLedger}
+use Rattle.query_rules.specs.History.{IsKindFor, StandsAt, maps_at, IsLegal, is_value, is_count}
 use Rattle.query_rules.specs.Log.{is_counted}
 use Rattle.query_rules.specs.Soak.{sum_below}
 use Rattle.soak_laws.specs.Totals.{delta_of}
 use Rattle.soak_laws.proofs.Sums as sums
 use Rattle.soak_laws.proofs.Sums.{total_same, total_le, total_none, none_in_total, total_length, all_with, all_as, below_fewer}
-use Rattle.soak_laws.proofs.Exchange.{own, exchange, own_none, own_one}
+use Rattle.soak_laws.proofs.Once.{Entry, odd, write_weight, writes_total, writes_few, act_weight, job_weight, jobs_total}
 use Rattle.soak_laws.proofs.SoakKinds.{is_fine_add, is_fine_give, is_look, IsSoak, Served}
 use Rattle.soak_laws.proofs.MapLaws.{Fit, has_key, key_le, fine_add, fit_all, fit_none}
 use Rattle.soak_laws.proofs.LedgerLaws.{is_fine_gift}
-
-abbrev pub Entry : Type 0
-Entry = Query × Reply
 
 -- what the maps may say to a look is no write
 look_reads : (q : Query) (said : Said) → is_look q ≡ true → IsKindFor q (Placed 0 said) → is_write said ≡ false
@@ -50,49 +46,7 @@ write_is_add q place said (inl look) kind writes = let reads = look_reads q said
 write_is_add q place said (inr (inl fine)) kind writes = fine
 write_is_add q place said (inr (inr give)) kind writes = absurd (give_is_unplaced q place said give kind)
 
--- ---- the writes are the entries with odd places
-abbrev odd : Reply → Bool
-odd (Placed place said) = place % 2 == 1
-odd Busy = false
-odd (Late now) = false
-odd (Job at result) = false
-
-abbrev write_weight : (Query → ℕ) → Entry → ℕ
-write_weight f e = cond (odd e.1) (f e.0) 0
-
-module _ (writes : List Query) (f : Query → ℕ) where
-  stands_own : (q : Query) (place : ℕ) (said : Said) (b : Bool) → (place % 2 == 1) ≡ b
-      → MatchBool b ((slice_get writes (place / 2) ≡ Some q) × IsTrue (is_write said)) ((place / 2 ≤ length writes) × IsFalse (is_write said))
-      → own is_write_at f (q, Placed place said) 0 writes ≡ cond b (f q) 0
-  stands_own q place said true is stand =
-      let odd_one : place % 2 ≡ 1 = eqb-true (place % 2) 1 is in
-      own_one is_write_at f (q, Placed place said) (place / 2) (eq-eqb place (2 * (place / 2) + 1) (omega (arith, odd_one)))
-      (λ w ne. ne_eqb place (2 * w + 1) (λ e. ne (omega (arith, e)))) 0 (place / 2) writes q (omega arith) stand.0
-  stands_own q place said false is stand =
-      own_none is_write_at f (q, Placed place said) 0 writes
-      (λ w h. ne_eqb place (2 * w + 1) (λ e. let one : (place % 2 == 1) ≡ true = eq-eqb (place % 2) 1 (omega (arith, e)) in absurd (cc)))
-
-  write_own : (e : Entry) → StandsAt 16 no_entries writes e → own is_write_at f e 0 writes ≡ write_weight f e
-  write_own (q, Placed place said) stand = stands_own q place said (place % 2 == 1) refl stand.1
-  write_own (q, Busy) stand = own_none is_write_at f (q, Busy) 0 writes (λ w h. refl)
-  write_own (q, Late now) stand = own_none is_write_at f (q, Late now) 0 writes (λ w h. refl)
-  write_own (q, Job at result) stand = own_none is_write_at f (q, Job at result) 0 writes (λ w h. refl)
-
 module _ (all : List Entry) (legal : IsLegal 16 no_entries all) where
-  pub writes_total : (f : Query → ℕ) → sums.total f legal.writes ≡ sums.total (write_weight f) all
-  writes_total f = exchange is_write_at f (write_weight f) all legal.writes (all_as (StandsAt 16 no_entries legal.writes) _ all (write_own legal.writes f) legal.stand) legal.once
-
-  writes_few : length legal.writes ≤ length all
-  writes_few =
-      let w = writes_total (λ q. 1) in
-      let one = total_length legal.writes in
-      let ones = total_length all in
-      let le = total_le (write_weight (λ q. 1)) (λ e. 1) all (λ e. at_most (odd e.1)) in omega (arith, w, one, ones, le)
-    where
-      at_most : (b : Bool) → cond b 1 0 ≤ 1
-      at_most true = omega arith
-      at_most false = omega arith
-
   -- each write is an addition of the soak
   unfine : (e : Entry) → IsSoak e.0 × IsKindFor e.0 e.1 → StandsAt 16 no_entries legal.writes e → write_weight (λ q. cond (is_fine_add q) 0 1) e ≡ 0
   unfine (q, Placed place said) kind stand = by_place (place % 2 == 1) stand.1
@@ -106,7 +60,7 @@ module _ (all : List Entry) (legal : IsLegal 16 no_entries all) where
 
   pub writes_fine : AllByRecursion (λ e. IsSoak e.0 × IsKindFor e.0 e.1) all → AllByRecursion (λ q. is_fine_add q ≡ true) legal.writes
   writes_fine kinds =
-      let none : sums.total (λ q. cond (is_fine_add q) 0 1) legal.writes ≡ 0 = writes_total (λ q. cond (is_fine_add q) 0 1) ∙ total_none _ all (all_with _ _ _ all unfine kinds legal.stand) in
+      let none : sums.total (λ q. cond (is_fine_add q) 0 1) legal.writes ≡ 0 = writes_total 16 all legal (λ q. cond (is_fine_add q) 0 1) ∙ total_none _ all (all_with _ _ _ all unfine kinds legal.stand) in
       all_as _ _ legal.writes (λ q h. fine (is_fine_add q) h) (none_in_total (λ q. cond (is_fine_add q) 0 1) legal.writes none)
     where
       fine : (b : Bool) → cond {A = ℕ} b 0 1 ≡ 0 → b ≡ true
@@ -130,7 +84,7 @@ module _ (all : List Entry) (legal : IsLegal 16 no_entries all) where
   maps_fit few fine w =
       let fit = fit_all 0 no_entries (take w legal.writes) (take_all (λ q. is_fine_add q ≡ true) legal.writes w fine) fit_none in
       let le = take_le legal.writes w in
-      let many = writes_few in
+      let many = writes_few 16 all legal in
       record { low = λ cell key. let l = fit.low cell key in omega (arith, l, le, many, few); count = fit.count; only = fit.only }
 
 -- ---- an addition finds room, and its sum fits
@@ -238,30 +192,10 @@ delta_served : (e : Entry) → Served e.0 e.1 → write_weight delta_of e ≡ co
 delta_served (q, r) s = ap (λ b. cond b (delta_of q) 0) (odd_counts r ∙ s.writes)
 
 pub delta_total : (all : List Entry) (legal : IsLegal 16 no_entries all) → AllByRecursion (λ e. Served e.0 e.1) all → sums.total delta_of legal.writes ≡ sums.total (λ e. cond (is_fine_add e.0) (delta_of e.0) 0) all
-delta_total all legal each = writes_total all legal delta_of ∙ total_same _ _ all (all_as _ _ all delta_served each)
+delta_total all legal each = writes_total 16 all legal delta_of ∙ total_same _ _ all (all_as _ _ all delta_served each)
 
--- ---- the jobs are the entries of jobs
-abbrev act_weight : (LedgerAct → ℕ) → Option LedgerAct → ℕ
-act_weight f (Some a) = f a
-act_weight f None = 0
-
-abbrev job_weight : (LedgerAct → ℕ) → Entry → ℕ
-job_weight f (q, Job at result) = act_weight f (act_of q)
-job_weight f (q, Placed place said) = 0
-job_weight f (q, Busy) = 0
-job_weight f (q, Late now) = 0
-
-job_own : (jobs : List LedgerAct) (f : LedgerAct → ℕ) (e : Entry) → RunsAt 16 no_accounts jobs e → own is_job_at f e 0 jobs ≡ job_weight f e
-job_own jobs f (q, Job at result) runs =
-    own_one is_job_at f (q, Job at result) at (eq-eqb at at refl) (λ w ne. ne_eqb at w (λ e. ne (sym e))) 0 at jobs runs.0 (omega arith) runs.2 ∙ sym (ap (act_weight f) runs.1)
-job_own jobs f (q, Placed place said) runs = own_none is_job_at f (q, Placed place said) 0 jobs (λ w h. refl)
-job_own jobs f (q, Busy) runs = own_none is_job_at f (q, Busy) 0 jobs (λ w h. refl)
-job_own jobs f (q, Late now) runs = own_none is_job_at f (q, Late now) 0 jobs (λ w h. refl)
-
+-- ---- the jobs
 module _ (all : List Entry) (legal : IsLegalLedger 16 no_accounts all) where
-  jobs_total : (f : LedgerAct → ℕ) → sums.total f legal.jobs ≡ sums.total (job_weight f) all
-  jobs_total f = exchange is_job_at f (job_weight f) all legal.jobs (all_as (RunsAt 16 no_accounts legal.jobs) _ all (job_own legal.jobs f) legal.stand) (λ p h. legal.once p h)
-
   unfine_job : (e : Entry) → Served e.0 e.1 → job_weight (λ a. cond (is_fine_gift a) 0 1) e ≡ 0
   unfine_job (q, Job at result) s = fine_give q (sym s.jobs)
     where
@@ -274,7 +208,7 @@ module _ (all : List Entry) (legal : IsLegalLedger 16 no_accounts all) where
 
   pub jobs_fine : AllByRecursion (λ e. Served e.0 e.1) all → AllByRecursion (λ a. is_fine_gift a ≡ true) legal.jobs
   jobs_fine each =
-      let none : sums.total (λ a. cond (is_fine_gift a) 0 1) legal.jobs ≡ 0 = jobs_total (λ a. cond (is_fine_gift a) 0 1) ∙ total_none _ all (all_as _ _ all unfine_job each) in
+      let none : sums.total (λ a. cond (is_fine_gift a) 0 1) legal.jobs ≡ 0 = jobs_total 16 all legal (λ a. cond (is_fine_gift a) 0 1) ∙ total_none _ all (all_as _ _ all unfine_job each) in
       all_as _ _ legal.jobs (λ a h. fine (is_fine_gift a) h) (none_in_total (λ a. cond (is_fine_gift a) 0 1) legal.jobs none)
     where
       fine : (b : Bool) → cond {A = ℕ} b 0 1 ≡ 0 → b ≡ true
@@ -292,4 +226,4 @@ module _ (all : List Entry) (legal : IsLegalLedger 16 no_accounts all) where
   one_job (q, Late now) s = ap (λ b. cond b 1 0) s.jobs
 
   pub jobs_count : AllByRecursion (λ e. Served e.0 e.1) all → length legal.jobs ≡ sums.total (λ e. cond (is_fine_give e.0) 1 0) all
-  jobs_count each = sym (total_length legal.jobs) ∙ jobs_total (λ a. 1) ∙ total_same _ _ all (all_as _ _ all one_job each)
+  jobs_count each = sym (total_length legal.jobs) ∙ jobs_total 16 all legal (λ a. 1) ∙ total_same _ _ all (all_as _ _ all one_job each)

@@ -1,4 +1,6 @@
 use Rattle.std.proofs.Common.{arith, subst, List, ℕ}
+use Rattle.std.proofs.lemmas.List.{length-map}
+use Rattle.query_text.specs.Packed.{spot_in, spots_in}
 use Rattle.query_rules.specs.Log.{log_text}
 use Rattle.ql_base.specs.Bytes.{Writes}
 use Rattle.ql_base.proofs.Pieces.{writes_then, writes_failed}
@@ -15,16 +17,20 @@ totals-totals-requires g c =
 
 pub split_at-requires : goal.split_at-requires
 split_at-requires g c =
-    let long = order_long c.args.outcome.now c.args.order.now c.requires.order in
+    let long = order_long c.args.outcome.now (spots_in c.args.order.now) c.requires.order in
+    let same = length-map c.args.order.now spot_in in
     let writes = c.totals-totals.ensures total.Writes in
     let reads = c.totals-totals.ensures total.Reads in
-    omega (arith, long, writes, reads)
+    omega (arith, long, same, writes, reads)
 
 pub write_spots-requires : goal.write_spots-requires
 write_spots-requires g c = map_spots c.args.script.now.callers _ c.args.outcome.now c.args.order.now _ c.totals-totals.result c.requires.kinds c.requires.order c.callers-callers.ensures.value c.totals-totals.ensures c.split_at.ensures.front
 
 pub write_later-requires-clause-spots : goal.write_later-requires-clause-spots
 write_later-requires-clause-spots g c = job_spots c.args.script.now.callers _ c.args.outcome.now c.args.order.now _ c.totals-totals.result c.requires.kinds c.requires.order c.callers-callers.ensures.value c.totals-totals.ensures c.split_at.ensures.back
+
+pub write_later-requires-clause-counted : goal.write_later-requires-clause-counted
+write_later-requires-clause-counted g c = c.totals-totals.ensures total.Refused
 
 pub returns-in_err-write_head-clause-bytes : goal.returns-in_err-write_head-clause-bytes
 unfolding log_text
