@@ -17,6 +17,7 @@ use Rattle.log_reader.specs.declared.answered.Answered.{Answered}
 use Rattle.log_reader.specs.Listing.{IsWritable, section_of, key_of, line_cmp}
 use Rattle.log_reader.specs.Grouping.{slot}
 use Rattle.log_reader.proofs.Unique.{Rises}
+use Rattle.query_text.proofs.PackedOrder.{then_false}
 
 -- ---- a first number decides, or where it ties the rest does
 less_false : (o r : Ordering) (m n : ℕ) → MatchOrdering o (m < n) (m ≡ n) (n < m) → is_lt (ordering_then o r) ≡ false → (n < m) ⊎ ((m ≡ n) × (is_lt r ≡ false))
@@ -29,24 +30,14 @@ less_true Less r m n k h = inl k
 less_true Equal r m n k h = inr (k, h)
 less_true Greater r m n k h = absurd (search (rules, h))
 
-above_false : (o r : Ordering) (m n : ℕ) → MatchOrdering o (m < n) (m ≡ n) (n < m) → n < m → is_lt (ordering_then o r) ≡ false
-above_false Less r m n k lt = absurd (omega (arith, k, lt))
-above_false Equal r m n k lt = absurd (omega (arith, k, lt))
-above_false Greater r m n k lt = refl
-
-tied_false : (o r : Ordering) (m n : ℕ) → MatchOrdering o (m < n) (m ≡ n) (n < m) → m ≡ n → is_lt r ≡ false → is_lt (ordering_then o r) ≡ false
-tied_false Less r m n k same h = absurd (omega (arith, k, same))
-tied_false Equal r m n k same h = h
-tied_false Greater r m n k same h = refl
-
 pub cmp_false : (m n : ℕ) (r : Ordering) → is_lt (ordering_then (nat_cmp m n) r) ≡ false → (n < m) ⊎ ((m ≡ n) × (is_lt r ≡ false))
 cmp_false m n r h = less_false (nat_cmp m n) r m n (ranks m n) h
 
 pub cmp_above : (m n : ℕ) (r : Ordering) → n < m → is_lt (ordering_then (nat_cmp m n) r) ≡ false
-cmp_above m n r lt = above_false (nat_cmp m n) r m n (ranks m n) lt
+cmp_above m n r lt = then_false (nat_cmp m n) r m n (ranks m n) (omega (arith, lt)) (λ same. absurd (omega (arith, lt, same)))
 
 pub cmp_tied : (m n : ℕ) (r : Ordering) → m ≡ n → is_lt r ≡ false → is_lt (ordering_then (nat_cmp m n) r) ≡ false
-cmp_tied m n r same h = tied_false (nat_cmp m n) r m n (ranks m n) same h
+cmp_tied m n r same h = then_false (nat_cmp m n) r m n (ranks m n) (omega (arith, same)) (λ _. h)
 
 module _ {X : Type 0} (f : X → ℕ) (R : X → X → Ordering) (o : IsStrictWeakOrder (λ x y. is_lt (R x y))) where
   then_one_way : (x y : X) → is_lt (ordering_then (nat_cmp (f x) (f y)) (R x y)) ≡ true → is_lt (ordering_then (nat_cmp (f y) (f x)) (R y x)) ≡ false

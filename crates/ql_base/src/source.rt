@@ -31,17 +31,11 @@ pub trait Source {
 /// How many bytes one read is asked for at most.
 const PIECE: usize = 64 * 1024;
 
-/// How many bytes have room before the first read: almost 32 MiB. Room that isn't used takes no memory of the machine.
-/// The C library gives a room back to the system when it is freed, page by page, unless it has seen one as large freed
-/// before, of less than 32 MiB; so what a run frees later is used again.
-const FIRST_ROOM: usize = 32 * 1024 * 1024 - 64 * 1024;
-
 /// Reads the source to its end, up to `limit` bytes. Where more come, it has taken exactly one byte more, and no read
 /// follows.
 ///
 /// The bytes are read straight into their place, at most 64 KiB at a time, so a read costs no copy. Room is made before
-/// each read, for almost 32 MiB at once where the limit is as high, so that a want of memory loses no byte that was
-/// taken and follows at most `limit` bytes.
+/// each read, so that a want of memory loses no byte that was taken and follows at most `limit` bytes.
 pub fn read_to_end<S: Source>(
     alloc: Global,
     source: &mut S,
@@ -69,7 +63,7 @@ pub fn read_to_end<S: Source>(
         Rose (S.faults source.old) (S.faults source.new) }
     ensures later { S.faults source.old ≤ S.faults source.new }
 {
-    let mut bytes = Vec::with_capacity(alloc, limit.min(FIRST_ROOM))?;
+    let mut bytes = Vec::new(alloc);
     let mut filled = 0;
     while filled <= limit {
         let count = read_piece(source, &mut bytes, filled, limit - filled + 1)?;

@@ -16,6 +16,8 @@ mod Tallies
 pub mod Spots
 -- A log's text, by its parts.
 pub mod LogTexts
+-- The lines of what says a spot, one at a time.
+pub mod SpotLines
 -- Packed spots stand in the order of what they say.
 pub mod PackedOrder
 -- How many digits a number has, and digits that are written behind a front.

@@ -1,18 +1,17 @@
 -- Packed spots stand in the order of what they say.
-use Rattle.std.proofs.Common.{◌≡◌, ℕ, ◌+◌, ◌*◌, ◌/◌, ◌%◌, ◌<◌, ◌≤◌, false, List, length, map, get_or, refl, ap, ◌∙◌, arith, Less, Equal, Greater}
+use Rattle.std.proofs.Common.{◌≡◌, ℕ, ◌+◌, ◌/◌, ◌%◌, ◌<◌, ◌≤◌, false, List, length, get_or, refl, ◌∙◌, arith, Less, Equal, Greater}
 use Rattle.std.specs.Prelude.{IsSorted}
 use Rattle.std.specs.declared.cmp.Ordering.{Ordering}
 use Rattle.std.specs.Ordering.{nat_cmp, ordering_then, is_lt, MatchOrdering}
 use Rattle.std.specs.Cmp.{ranks}
 use Rattle.std.proofs.lemmas.List.{length-map, get_or-map}
 use Rattle.std.proofs.lemmas.List.Sorted.{IsNonDecreasingBy-from_sort}
-use Rattle.query_rules.specs.declared.query.Spot.{Spot}
 use Rattle.query_rules.specs.Log.{spot_cmp}
 use Rattle.query_text.specs.declared.packed.PackedSpot.{PackedSpot}
 use Rattle.query_text.specs.Packed.{spot_in, spots_in, packed_cmp}
 
 -- a number that isn't less decides, or where it ties the rest does
-then_false : (o r : Ordering) (m n : ℕ) → MatchOrdering o (m < n) (m ≡ n) (n < m) → n ≤ m → (m ≡ n → is_lt r ≡ false) → is_lt (ordering_then o r) ≡ false
+pub then_false : (o r : Ordering) (m n : ℕ) → MatchOrdering o (m < n) (m ≡ n) (n < m) → n ≤ m → (m ≡ n → is_lt r ≡ false) → is_lt (ordering_then o r) ≡ false
 then_false Less r m n k le tied = absurd (omega (arith, k, le))
 then_false Equal r m n k le tied = tied k
 then_false Greater r m n k le tied = refl

@@ -1,5 +1,5 @@
 -- The reply that is kept in a form.
-use Rattle.std.specs.Prelude.{ℕ, ◌+◌, ◌*◌, ◌^◌, Some, None, Ok, Err}
+use Rattle.std.specs.Prelude.{◌+◌, ◌*◌, ◌^◌, Some, None, Ok, Err}
 use Rattle.query_rules.specs.declared.query.Said.TheVariants as said
 use Rattle.query_rules.specs.declared.query.LedgerTold.TheVariants as told
 use Rattle.query_rules.specs.declared.query.LedgerTrouble.TheVariants as trouble

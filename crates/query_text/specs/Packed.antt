@@ -1,13 +1,11 @@
 -- What packed spots say.
-use Rattle.std.specs.Prelude.{ℕ, ◌*◌, ◌/◌, ◌%◌, ◌<◌, ◌≤◌, List, length, map, flat_map, sum_by}
+use Rattle.std.specs.Prelude.{◌*◌, ◌/◌, ◌%◌, ◌<◌, ◌≤◌, List, length, map, sum_by}
 use Rattle.std.specs.declared.cmp.Ordering.{Ordering}
 use Rattle.std.specs.List.{AllByRecursion}
 use Rattle.std.specs.Ordering.{nat_cmp}
-use Rattle.query_rules.specs.declared.query.Query.{Query}
 use Rattle.query_rules.specs.declared.query.Reply.{Reply}
 use Rattle.query_rules.specs.declared.query.Reply.TheVariants.{Placed, Busy, Late, Job}
 use Rattle.query_rules.specs.declared.query.Spot.{Spot}
-use Rattle.query_rules.specs.Log.{IsSpot, spot_line}
 use Rattle.query_text.specs.declared.packed.PackedSpot.{PackedSpot}
 use Rattle.query_text.specs.declared.packed.TheConstants.{SPOT_CALLERS, SPOT_INDEXES, SPOT_KEYS}
 
@@ -17,14 +15,6 @@ spot_in p = record { key = p.number / (SPOT_CALLERS * SPOT_INDEXES); caller = p.
 
 abbrev pub spots_in : List PackedSpot → List Spot
 spots_in packed = map spot_in packed
-
--- it has a query and a reply
-abbrev pub IsPackedSpot : List (List Query) → List (List Reply) → PackedSpot → Type 0
-IsPackedSpot asked told p = IsSpot asked told (spot_in p)
-
--- their lines
-unfoldable pub packed_text : List (List Query) → List (List Reply) → List PackedSpot → List ℕ
-packed_text asked told packed = flat_map (λ p. spot_line asked told (spot_in p)) packed
 
 -- a packed spot has room for the reply's key
 abbrev pub HasPackedKey : Reply → Type 0

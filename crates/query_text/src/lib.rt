@@ -24,11 +24,11 @@ mod soak;
 mod words;
 
 pub use kept::KeptReply;
-pub use log::write_log;
+pub use log::{write_log, write_packed_log};
 pub use log_line::Line;
 pub use number::numbers as word_numbers;
 pub use outcome::{Counts, Outcome};
-pub use packed::{PackedSpot, SPOT_CALLERS, SPOT_INDEXES, SPOT_KEYS};
+pub use packed::{PackedSpot, SPOT_CALLERS, SPOT_INDEXES, SPOT_KEYS, SpotLike};
 pub use parse::{ParseFault, parse_script};
 pub use query_rules::{
     Cause, LedgerTold, LedgerTrouble, MOST_CALLERS, MOST_CELLS, MOST_QUERIES, Query, Reply, Said,

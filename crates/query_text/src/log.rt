@@ -1,18 +1,19 @@
 //! The writing of a log.
-ghost use Rattle.std.specs.Prelude.{◌≡◌, ◌≤◌, ◌<◌, ◌^◌, ◌++◌, Some, [], length, get_or, take, drop, sum_by};
+ghost use Rattle.std.specs.Prelude.{◌≡◌, ◌≤◌, ◌<◌, ◌^◌, ◌++◌, Some, [], length, get_or, map, take, drop, sum_by};
 ghost use Rattle.std.specs.List.{AllByRecursion, AllZip};
 ghost use Rattle.ql_base.specs.Bytes.{Writes};
 ghost use Rattle.ql_base.specs.Causes.{HasCause};
 ghost use Rattle.query_text.specs.Counts.{totals_in};
 ghost use Rattle.query_rules.specs.History.{IsKindFor};
 ghost use Rattle.query_rules.specs.declared.query.Total.TheVariants as total;
-ghost use Rattle.query_rules.specs.Log.{log_text, head_text, tables_line, refused_text, refused_from, totals_text, total_line, end_line, spot_line, refused_line, total_of, asked_at, told_at, placed_count, IsOrder};
-ghost use Rattle.query_text.specs.Packed.{spot_in, spots_in, packed_text, IsPackedSpot};
+ghost use Rattle.query_rules.specs.Log.{log_text, head_text, tables_line, spots_text, refused_text, refused_from, totals_text, total_line, end_line, spot_line, refused_line, total_of, asked_at, told_at, placed_count, IsSpot, IsOrder};
+ghost use Rattle.query_text.specs.Packed.{spots_in};
 
 use crate::log_line::{Line, write_answer, write_number};
+use crate::packed::SpotLike;
 use crate::{Callers, Counts, KeptReply, Outcome, PackedSpot, Script};
 use ql_base::{Failed, Sink};
-use query_rules::{Query, Reply, Total};
+use query_rules::{Query, Reply, Spot, Total};
 
 /// Writes the log of a script with so many rows in each cell: what was replied, and the totals. A line is handed to the
 /// sink as one piece, and the rest of it again until it is taken.
@@ -25,12 +26,44 @@ pub fn write_log<K: Sink>(
     script: &Script,
     rows: u64,
     outcome: &Outcome,
-    order: &[PackedSpot],
+    order: &[Spot],
 ) -> Result<(), Failed>
     // Each query has a reply of a kind that it may get.
     requires kinds { AllZip (AllZip IsKindFor) script.now.callers outcome.now }
+    requires order { IsOrder outcome.now order.now }
+    ensures bytes { Writes (K.written sink.old) (K.written sink.new) result (log_text script.now rows outcome.now order.now) }
+    ensures cause { HasCause (K.faults sink.old) (K.faults sink.new) result }
+{
+    write_by(sink, script, rows, outcome, order)
+}
+
+/// Writes the log as [`write_log`] does, of spots that are packed.
+pub fn write_packed_log<K: Sink>(
+    sink: &mut K,
+    script: &Script,
+    rows: u64,
+    outcome: &Outcome,
+    order: &[PackedSpot],
+) -> Result<(), Failed>
+    requires kinds { AllZip (AllZip IsKindFor) script.now.callers outcome.now }
     requires order { IsOrder outcome.now (spots_in order.now) }
     ensures bytes { Writes (K.written sink.old) (K.written sink.new) result (log_text script.now rows outcome.now (spots_in order.now)) }
+    ensures cause { HasCause (K.faults sink.old) (K.faults sink.new) result }
+{
+    write_by(sink, script, rows, outcome, order)
+}
+
+// Writes the log, whatever its spots are kept in.
+fn write_by<K: Sink, P: SpotLike>(
+    sink: &mut K,
+    script: &Script,
+    rows: u64,
+    outcome: &Outcome,
+    order: &[P],
+) -> Result<(), Failed>
+    requires kinds { AllZip (AllZip IsKindFor) script.now.callers outcome.now }
+    requires order { IsOrder outcome.now (map P.spot order.now) }
+    ensures bytes { Writes (K.written sink.old) (K.written sink.new) result (log_text script.now rows outcome.now (map P.spot order.now)) }
     ensures cause { HasCause (K.faults sink.old) (K.faults sink.new) result }
 {
     let callers = script.callers();
@@ -64,63 +97,63 @@ fn write_head<K: Sink>(sink: &mut K, script: &Script, rows: u64) -> Result<(), F
 }
 
 // The query of a spot.
-fn query_at<'a>(callers: &'a Callers, spot: PackedSpot) -> &'a Query
-    requires caller { (spot_in spot).caller < length callers.now }
-    requires index { (spot_in spot).index < length (get_or callers.now (spot_in spot).caller []) }
-    ensures { asked_at callers.now (spot_in spot) ≡ Some result.now }
+fn query_at<'a, P: SpotLike>(callers: &'a Callers, spot: &P) -> &'a Query
+    requires caller { (P.spot spot.now).caller < length callers.now }
+    requires index { (P.spot spot.now).index < length (get_or callers.now (P.spot spot.now).caller []) }
+    ensures { asked_at callers.now (P.spot spot.now) ≡ Some result.now }
 {
-    let queries = callers.queries(spot.caller());
-    &queries[spot.index() as usize]
+    let queries = callers.queries(spot.caller_of());
+    &queries[spot.index_of() as usize]
 }
 
 // The reply of a spot.
-fn reply_at(outcome: &Outcome, spot: PackedSpot) -> Reply
-    requires caller { (spot_in spot).caller < length outcome.now }
-    requires index { (spot_in spot).index < length (get_or outcome.now (spot_in spot).caller []) }
-    ensures { told_at outcome.now (spot_in spot) ≡ Some result }
+fn reply_at<P: SpotLike>(outcome: &Outcome, spot: &P) -> Reply
+    requires caller { (P.spot spot.now).caller < length outcome.now }
+    requires index { (P.spot spot.now).index < length (get_or outcome.now (P.spot spot.now).caller []) }
+    ensures { told_at outcome.now (P.spot spot.now) ≡ Some result }
 {
-    let replies = outcome.replies(spot.caller());
-    replies[spot.index() as usize].reply()
+    let replies = outcome.replies(spot.caller_of());
+    replies[spot.index_of() as usize].reply()
 }
 
 #[tactic(auto, unfolding(query_rules::specs::Log::spot_line))]
-fn write_at<K: Sink>(
+fn write_at<K: Sink, P: SpotLike>(
     sink: &mut K,
     line: &mut Line,
     callers: &Callers,
     outcome: &Outcome,
-    spot: PackedSpot,
+    spot: &P,
 ) -> Result<(), Failed>
-    requires { IsPackedSpot callers.now outcome.now spot }
-    ensures bytes { Writes (K.written sink.old) (K.written sink.new) result (spot_line callers.now outcome.now (spot_in spot)) }
+    requires { IsSpot callers.now outcome.now (P.spot spot.now) }
+    ensures bytes { Writes (K.written sink.old) (K.written sink.new) result (spot_line callers.now outcome.now (P.spot spot.now)) }
     ensures cause { HasCause (K.faults sink.old) (K.faults sink.new) result }
 {
     let query = query_at(callers, spot);
     write_answer(
         sink,
         line,
-        spot.caller(),
-        spot.index(),
+        spot.caller_of(),
+        spot.index_of(),
         query,
         reply_at(outcome, spot),
     )
 }
 
 // Writes the lines of these spots.
-fn write_spots<K: Sink>(
+fn write_spots<K: Sink, P: SpotLike>(
     sink: &mut K,
     callers: &Callers,
     outcome: &Outcome,
-    order: &[PackedSpot],
+    order: &[P],
 ) -> Result<(), Failed>
-    requires { AllByRecursion (IsPackedSpot callers.now outcome.now) order.now }
-    ensures bytes { Writes (K.written sink.old) (K.written sink.new) result (packed_text callers.now outcome.now order.now) }
+    requires { AllByRecursion (IsSpot callers.now outcome.now) (map P.spot order.now) }
+    ensures bytes { Writes (K.written sink.old) (K.written sink.new) result (spots_text callers.now outcome.now (map P.spot order.now)) }
     ensures cause { HasCause (K.faults sink.old) (K.faults sink.new) result }
 {
     let mut line = Line::new(b"");
     let mut rest = order;
     while let [spot, after @ ..] = rest {
-        write_at(sink, &mut line, callers, outcome, *spot)?;
+        write_at(sink, &mut line, callers, outcome, spot)?;
         rest = after;
     }
     Ok(())
@@ -250,18 +283,18 @@ fn write_close<K: Sink>(sink: &mut K, totals: &Counts) -> Result<(), Failed>
 }
 
 // Writes what stands behind the map lines.
-fn write_later<K: Sink>(
+fn write_later<K: Sink, P: SpotLike>(
     sink: &mut K,
     callers: &Callers,
     outcome: &Outcome,
-    jobs: &[PackedSpot],
+    jobs: &[P],
     totals: &Counts,
 ) -> Result<(), Failed>
     requires kinds { AllZip (AllZip IsKindFor) callers.now outcome.now }
-    requires spots { AllByRecursion (IsPackedSpot callers.now outcome.now) jobs.now }
+    requires spots { AllByRecursion (IsSpot callers.now outcome.now) (map P.spot jobs.now) }
     requires counted { totals.now.refused ≡ total_of total.Refused outcome.now }
     ensures bytes { Writes (K.written sink.old) (K.written sink.new) result
-        (refused_text callers.now outcome.now ++ (packed_text callers.now outcome.now jobs.now ++ (totals_text (totals_in totals.now) ++ end_line))) }
+        (refused_text callers.now outcome.now ++ (spots_text callers.now outcome.now (map P.spot jobs.now) ++ (totals_text (totals_in totals.now) ++ end_line))) }
     ensures cause { HasCause (K.faults sink.old) (K.faults sink.new) result }
 {
     write_refused(sink, callers, outcome, totals.refused)?;

@@ -1,7 +1,36 @@
 //! Spots as they are kept until the log is written: a third of the bytes each, and cheap to sort.
 ghost use Rattle.std.specs.Prelude.{◌≡◌, ◌<◌};
+ghost use Rattle.query_rules.specs.declared.query.Spot.{Spot};
 ghost use Rattle.query_text.specs.Packed.{spot_in};
 ghost use Rattle.query_text.specs.declared.packed.TheConstants.{SPOT_CALLERS, SPOT_INDEXES, SPOT_KEYS};
+
+use query_rules::Spot;
+
+/// What says where a line of the log takes its reply from.
+pub trait SpotLike {
+    /// The spot it says.
+    ghost spot: { Self → Spot };
+
+    /// Whose reply it is.
+    fn caller_of(&self) -> u64
+        ensures { result ≡ (spot self.now).caller };
+
+    /// The reply's index among those of its caller.
+    fn index_of(&self) -> u64
+        ensures { result ≡ (spot self.now).index };
+}
+
+impl SpotLike for Spot {
+    ghost spot = { λ s. s };
+
+    fn caller_of(&self) -> u64 {
+        self.caller
+    }
+
+    fn index_of(&self) -> u64 {
+        self.index
+    }
+}
 
 /// How many indexes a packed spot tells apart, which is no fewer than `MOST_QUERIES`.
 pub const SPOT_INDEXES: u64 = 1 << 20;
@@ -45,5 +74,17 @@ impl PackedSpot {
         ensures { result ≡ (spot_in self).index }
     {
         self.number % SPOT_INDEXES
+    }
+}
+
+impl SpotLike for PackedSpot {
+    ghost spot = { spot_in };
+
+    fn caller_of(&self) -> u64 {
+        self.caller()
+    }
+
+    fn index_of(&self) -> u64 {
+        self.index()
     }
 }

@@ -19,7 +19,9 @@ use crate::room::count_queries;
 use crate::run::run_script;
 use command_line::{Options, RunMode, WordsFault, check_words};
 use ql_base::{Clocks, Gate, ReadFault, Sink, Source, read_to_end};
-use query_text::{ParseFault, Refusal, Script, parse_script, write_log, write_refusal, write_soak};
+use query_text::{
+    ParseFault, Refusal, Script, parse_script, write_packed_log, write_refusal, write_soak,
+};
 use soak::{make_soak, sum_up};
 use soak_laws::a_soak_has_one_summary;
 use std::alloc::Global;
@@ -105,7 +107,7 @@ fn answer<R: Threads + Wait + Sync, K: Sink, T: Clocks, G: Gate>(
     };
     *ended = ran.ended;
     let order = order_of(spots, &ran.outcome);
-    match write_log(sink, script, options.rows, &ran.outcome, &order) {
+    match write_packed_log(sink, script, options.rows, &ran.outcome, &order) {
         Ok(()) => Ok(()),
         Err(_) => Err(LogFault::Write),
     }

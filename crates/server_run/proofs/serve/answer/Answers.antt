@@ -21,8 +21,8 @@ order_of-order-requires-clause-packable g c =
     let script = c.requires.script.script in
     packable c.args.options.now.rows callers c.in-Ok-run_script.ran.outcome c.in-Ok-run_script.ensures.history script.crowd script.few
 
-pub write_log-requires-clause-kinds : goal.write_log-requires-clause-kinds
-write_log-requires-clause-kinds g c = kinds_all c.args.options.now.rows c.args.script.now.callers c.in-Ok-run_script.ran.outcome c.in-Ok-run_script.ensures.history
+pub write_packed_log-requires-clause-kinds : goal.write_packed_log-requires-clause-kinds
+write_packed_log-requires-clause-kinds g c = kinds_all c.args.options.now.rows c.args.script.now.callers c.in-Ok-run_script.ran.outcome c.in-Ok-run_script.ensures.history
 
 pub returns-clause-cut : goal.returns-clause-cut
 returns-clause-cut g c = λ is.
@@ -32,10 +32,10 @@ returns-clause-cut g c = λ is.
     let log = log_of c.args.script.now rows c.in-Ok-run_script.ran.outcome (spots_in c.deref.result.now) c.requires.script (omega (arith, most)) c.in-Ok-run_script.ensures.numbers c.in-Ok-run_script.ensures.history (subst P (sym c.deref.ensures.value) c.order_of-order.ensures) in
     (c.in-Ok-run_script.ran.outcome, _, log, c.in-Ok-run_script.ensures.history, c.in-Ok-run_script.ensures.ended, c.in-Err.ensures.bytes)
 
-pub returns-in-Ok-write_log-clause-written : goal.returns-in-Ok-write_log-clause-written
-returns-in-Ok-write_log-clause-written g c =
+pub returns-in-Ok-write_packed_log-clause-written : goal.returns-in-Ok-write_packed_log-clause-written
+returns-in-Ok-write_packed_log-clause-written g c =
     let P : List PackedSpot → Type 0 = λ o. IsOrder c.in-Ok-run_script.ran.outcome (spots_in o) in
     let rows = c.args.options.now.rows in
     let most = c.requires.limits.1 in
     let log = log_of c.args.script.now rows c.in-Ok-run_script.ran.outcome (spots_in c.deref.result.now) c.requires.script (omega (arith, most)) c.in-Ok-run_script.ensures.numbers c.in-Ok-run_script.ensures.history (subst P (sym c.deref.ensures.value) c.order_of-order.ensures) in
-    (c.in-Ok-run_script.ran.outcome, _, log, c.in-Ok-run_script.ensures.history, c.in-Ok-run_script.ensures.ended, c.in-Ok-write_log.ensures.bytes)
+    (c.in-Ok-run_script.ran.outcome, _, log, c.in-Ok-run_script.ensures.history, c.in-Ok-run_script.ensures.ended, c.in-Ok-write_packed_log.ensures.bytes)
