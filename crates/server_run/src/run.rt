@@ -152,12 +152,8 @@ pub fn run_script<R: Threads + Wait + Sync, T: Clocks, G: Gate>(
     ensures ended { IfOk result (λ ran. EndedAs script.now options.now ran.outcome ran.ended) }
 {
     let callers = script.callers();
-    // The hall comes last: its making frees a room as large as its words, which the lists of replies may lie in.
+    let (hall, mut pass) = open_hall(alloc, script.cells(), callers, options)?;
     let (dist, mut dist_pass) = open_ledger(alloc, callers, options)?;
-    let Ok((hall, mut pass)) = open_hall(alloc, script.cells(), callers, options) else {
-        drop(dist.close(dist_pass));
-        return Err(NoMemory);
-    };
     let told = run_callers(
         rt,
         alloc,

@@ -15,13 +15,13 @@ pub returns-clause-history : goal.returns-clause-history
 returns-clause-history g c =
     let rows = c.args.options.now.rows in
     let script = c.args.script.now in
-    let hall = c.in-Ok.hall in
+    let hall = c.in_ok-hall.hall in
     let dist = c.in_ok-dist.dist in
     let w = view c.run_callers-told.new.pass in
     let e = dist_view c.run_callers-told.new.dist_pass in
     let whole = c.in_ok-outcome.ensures.whole in
     let is : c.callers-callers.result.now ≡ script.callers = c.callers-callers.ensures.value in
-    let made = c.in-Ok.ensures.hall in
+    let made = c.in_ok-hall.ensures.hall in
     let lock = c.in_ok-dist.ensures.lock in
     let asked = ap (λ (l : List (List Query)). length l) is in
     let seats = whole.wide ∙ (let s = made.seats in omega (arith, s, asked)) in
