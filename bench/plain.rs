@@ -1,6 +1,9 @@
 //! `plain run [--rows N]` and `plain soak [--count N]`: what querylog does, as a plain program with the locks, the maps
 //! and the threads of std. Nothing of it is proved; `bench/run` measures querylog beside it.
 //!
+//! With `--log-rows` behind these, it also stores a log row for each write, as querylog must. Nobody reads them here: they
+//! show what the rows alone cost.
+//!
 //! docs/SCRIPT.md says what a script is and how its log is written. Only well-formed scripts are answered with a log,
 //! and most limits aren't looked at. Of any other script the first line that can't be read is told on standard error,
 //! without its cause, and the status is 3. A run with one caller writes the bytes that querylog writes; with several
@@ -54,6 +57,14 @@ enum Verb {
     Give,
     Take,
     Audit,
+}
+
+impl Verb {
+    /// Whether it changes a cell where it can.
+    fn may_write(self) -> bool {
+        use Verb::*;
+        matches!(self, Put | Add | Del | Cas | Putlen | Move | Tryput | Putby)
+    }
 }
 
 /// In the order of the verbs: each one's name, how many cells stand behind it, and how many numbers behind these.
@@ -348,9 +359,14 @@ impl Ledger {
 #[repr(align(64))]
 struct Apart<T>(T);
 
+/// What was asked in one write, a word at a time, as other threads may read it while it is written.
+type LogRow = [AtomicU64; 8];
+
 /// What the callers share. No lock is ever poisoned, since a panic ends the program.
 struct Server {
     rows: usize,
+    /// One for each write that there may be, or none where none are kept.
+    log_rows: Vec<LogRow>,
     began: Instant,
     cells: Vec<Apart<RwLock<Map>>>,
     /// How many writes were done. It is read and raised while a cell is held. The cell's lock shows its next holder all
@@ -360,10 +376,11 @@ struct Server {
 }
 
 impl Server {
-    fn new(cells: u8, rows: usize, began: Instant) -> Server {
+    fn new(cells: u8, rows: usize, writes: usize, began: Instant) -> Server {
         let cells = (0..cells).map(|_| Apart::default()).collect();
         Server {
             rows,
+            log_rows: (0..writes).map(|_| LogRow::default()).collect(),
             began,
             cells,
             writes: Apart::default(),
@@ -373,16 +390,39 @@ impl Server {
 
     /// Asks each caller's queries in a thread of its own.
     fn run(&self, callers: &[Vec<Query>]) -> Vec<Vec<Reply>> {
-        let work = |queries: &[Query]| queries.iter().map(|query| self.ask(query)).collect();
+        let work = |caller: usize, queries: &[Query]| {
+            let ask_nth = |(index, query)| {
+                let reply = self.ask(query);
+                self.keep(caller, index, query, reply);
+                reply
+            };
+            queries.iter().enumerate().map(ask_nth).collect()
+        };
         thread::scope(|scope| {
             let threads: Vec<_> = callers
                 .iter()
-                .map(|queries| scope.spawn(move || work(queries)))
+                .enumerate()
+                .map(|(caller, queries)| scope.spawn(move || work(caller, queries)))
                 .collect();
             threads.into_iter().map(|thread| thread.join().unwrap()).collect()
         })
     }
 
+    /// Stores the log row of a write, where log rows are kept. querylog does so while the cell is held; it costs the same.
+    fn keep(&self, caller: usize, index: usize, query: &Query, Reply { place, answer }: Reply) {
+        if self.log_rows.is_empty() || !answer.is_write() {
+            return;
+        }
+        let Query { verb, cells, numbers } = *query;
+        let [one, two] = cells.map(u64::from);
+        let [key, value, last] = numbers;
+        let words = [caller as u64, index as u64, verb as u64, one, two, key, value, last];
+        for (word, now) in self.log_rows[place as usize / 2].iter().zip(words) {
+            word.store(now, Ordering::SeqCst);
+        }
+    }
+
+    #[inline(never)]
     fn ask(&self, query: &Query) -> Reply {
         let Query {
             verb,
@@ -602,6 +642,7 @@ impl Log {
 
     /// Writes a line for each reply of a kind, ordered by place, caller and index. Each caller's replies are in that
     /// order already, so it is enough to choose the first of the callers' next ones again and again.
+    #[inline(never)]
     fn replies(&mut self, kind: Kind, script: &Script, replies: &[Vec<Reply>]) -> io::Result<()> {
         let next_of = |caller: usize, from: usize| {
             let mut later = replies[caller].iter().enumerate().skip(from);
@@ -649,6 +690,8 @@ impl Log {
     }
 }
 
+// Kept apart, as `replies` is, so that a profile tells reading from printing.
+#[inline(never)]
 fn read_script() -> Result<Script, Box<dyn Error>> {
     let mut input = Vec::new();
     // A file tells its length, so that the vector is made once.
@@ -661,10 +704,12 @@ fn read_script() -> Result<Script, Box<dyn Error>> {
     })
 }
 
-fn run(rows: usize) -> Result<(), Box<dyn Error>> {
+fn run(rows: usize, keeps_log: bool) -> Result<(), Box<dyn Error>> {
     let began = Instant::now();
     let script = read_script()?;
-    let replies = Server::new(script.cells, rows, began).run(&script.callers);
+    let queries = script.callers.iter().flatten();
+    let writes = queries.filter(|query| keeps_log && query.verb.may_write()).count();
+    let replies = Server::new(script.cells, rows, writes, began).run(&script.callers);
     let mut log = Log::new()?;
     log.text_and("querylog 1\ncells ", u64::from(script.cells));
     log.text_and(" rows ", rows as u64);
@@ -695,10 +740,12 @@ fn soak_query(number: u64) -> Query {
     }
 }
 
-fn soak(count: u64) -> Result<(), Box<dyn Error>> {
+fn soak(count: u64, keeps_log: bool) -> Result<(), Box<dyn Error>> {
     let queries_of = |caller| (caller..count).step_by(4).map(soak_query).collect();
     let callers: Vec<Vec<Query>> = (0..4).map(queries_of).collect();
-    let server = Server::new(8, 16, Instant::now());
+    let queries = callers.iter().flatten();
+    let writes = queries.filter(|query| keeps_log && query.verb.may_write()).count();
+    let server = Server::new(8, 16, writes, Instant::now());
     let replies = server.run(&callers);
     let mut sum = 0;
     for cell in &server.cells {
@@ -716,13 +763,20 @@ fn soak(count: u64) -> Result<(), Box<dyn Error>> {
 fn main() -> ExitCode {
     let words: Vec<String> = env::args().skip(1).collect();
     let words: Vec<&str> = words.iter().map(String::as_str).collect();
-    let done = match words[..] {
-        ["run"] => run(1024),
-        ["run", "--rows", rows] => rows.parse().map_err(Box::from).and_then(run),
-        ["soak"] => soak(1000),
-        ["soak", "--count", count] => count.parse().map_err(Box::from).and_then(soak),
+    let (words, keeps_log) = match &words[..] {
+        [words @ .., "--log-rows"] => (words, true),
+        words => (words, false),
+    };
+    let done = match *words {
+        ["run"] => run(1024, keeps_log),
+        ["run", "--rows", rows] => rows.parse().map_err(Box::from).and_then(|rows| run(rows, keeps_log)),
+        ["soak"] => soak(1000, keeps_log),
+        ["soak", "--count", count] => count
+            .parse()
+            .map_err(Box::from)
+            .and_then(|count| soak(count, keeps_log)),
         _ => {
-            eprintln!("plain run [--rows N], or plain soak [--count N]");
+            eprintln!("plain run [--rows N], or plain soak [--count N], each with or without --log-rows behind it");
             return ExitCode::from(2);
         }
     };
