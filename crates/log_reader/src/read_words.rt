@@ -60,10 +60,9 @@ fn first_numbers<'a>(
     if words.len() < count {
         return None;
     }
-    match word_numbers(&words[..count]) {
-        Some(numbers) => Some((numbers, &words[count..])),
-        None => None,
-    }
+    let mut numbers = ArrayVec::new();
+    word_numbers(&words[..count], &mut numbers)?;
+    Some((numbers, &words[count..]))
 }
 
 // The query at the front.

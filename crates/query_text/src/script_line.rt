@@ -47,10 +47,11 @@ fn cells_line(words: &[&[u8]]) -> Result<u64, Cause>
     if words.len() != 2 {
         return Err(Cause::WordCount);
     }
-    let Some(numbers) = numbers(&words[1..]) else {
+    let mut cells = ArrayVec::new();
+    if numbers(&words[1..], &mut cells).is_none() {
         return Err(Cause::BadNumber);
-    };
-    let cells = numbers.first().copied().unwrap_or(0);
+    }
+    let cells = cells.first().copied().unwrap_or(0);
     if cells == 0 || cells > MOST_CELLS {
         return Err(Cause::CellRange);
     }
@@ -95,16 +96,17 @@ fn query_line(
     if callers.count() == 0 {
         return Err(LineFault::Bad(Cause::NoCaller));
     }
-    let Some(numbers) = numbers(&words[1..]) else {
+    let mut asked = ArrayVec::new();
+    if numbers(&words[1..], &mut asked).is_none() {
         return Err(LineFault::Bad(Cause::BadNumber));
-    };
-    if is_out_of_range(cells, &numbers[..verb.cells()]) {
+    }
+    if is_out_of_range(cells, &asked[..verb.cells()]) {
         return Err(LineFault::Bad(Cause::CellRange));
     }
     if callers.is_full() {
         return Err(LineFault::Bad(Cause::TooManyQueries));
     }
-    callers.add_query(verb.query(&numbers))?;
+    callers.add_query(verb.query(&asked))?;
     Ok(())
 }
 
