@@ -5,7 +5,7 @@ use Rattle.query_log.specs.declared.job.LedgerEntry.{LedgerEntry}
 use Rattle.query_log.specs.Book.{Book}
 use Rattle.query_log.specs.Ledgers.{LedgerView, made_by, accounts_in}
 use Rattle.query_log.proofs.Histories.{made_push}
-use Rattle.query_log.proofs.ledger.Ledger.run_plain.Goals as goal
+use Rattle.query_log.proofs.ledger.JobBook.run_plain.Goals as goal
 
 pub invariant_of-self : goal.invariant_of-self
 invariant_of-self c =
